@@ -1,0 +1,53 @@
+-- What a block write changes, and what it leaves.
+-- Assumes nothing.
+use Prim.Native.Nat.{ℕ, _+_, _-_, _*_, _≤_}
+use lib.ListN.{length, take, drop, length-take, length-drop}
+use mathlib.Core.List.{List, _++_}
+use mathlib.Core.Logic.{_≢_, ⊎-elim}
+use mathlib.Core.Path.{_≡_}
+use native.Mathlib.Omega.{arith}
+use Rattle.card.proofs.BytesLaws.{lent-part, shared-part, copied, part-length, patch-length, part-patch-same, part-patch-before, part-patch-after, patch-old}
+use Rattle.card.proofs.Test.{apart}
+use Rattle.card.specs.Block.{blockAt, putBlock}
+
+module _ (c : List ℕ) (n : ℕ) (b : List ℕ) (long : length b ≡ 512) (fits : 512 * n + 512 ≤ length c) where
+  pub put-length : length (putBlock c n b) ≡ length c
+  unfolding putBlock
+  put-length = patch-length c (512 * n) b (omega arith)
+
+  pub put-same : blockAt (putBlock c n b) n ≡ b
+  unfolding putBlock blockAt
+  put-same = part-patch-same c (512 * n) b (omega arith) 512 long
+
+  pub put-other : (m : ℕ) → m ≢ n → blockAt (putBlock c n b) m ≡ blockAt c m
+  unfolding putBlock blockAt
+  put-other m ne = ⊎-elim
+      (λ h. part-patch-before c (512 * n) b (omega arith) (512 * m) 512 (omega arith))
+      (λ h. part-patch-after c (512 * n) b (omega arith) (512 * m) 512 (omega arith))
+      (apart m n ne)
+
+pub block-length : (c : List ℕ) (n : ℕ) → 512 * n + 512 ≤ length c → length (blockAt c n) ≡ 512
+unfolding blockAt
+block-length c n h = part-length c (512 * n) 512 h
+
+-- a block put back as it was
+pub put-old : (c : List ℕ) (n : ℕ) → putBlock c n (blockAt c n) ≡ c
+unfolding putBlock blockAt
+put-old c n = patch-old c (512 * n) 512
+
+-- ---- what code leaves of a card
+
+-- a block lent for reading
+pub lent-block : (c : List ℕ) (n : ℕ) → take (512 * n + 512 - 512 * n) (drop (512 * n) c) ≡ blockAt c n
+unfolding blockAt
+lent-block c n = shared-part c (512 * n) (512 * n + 512) 512 (omega arith)
+
+-- a block lent for writing, into which b was copied
+pub lent-put : (c : List ℕ) (n : ℕ) (b y : List ℕ) → length b ≡ 512 → 512 * n + 512 ≤ length c
+    → y ≡ take (length b) b ++ drop (length b) (take (512 * n + 512 - 512 * n) (drop (512 * n) c))
+    → take (512 * n) c ++ (y ++ drop (512 * n + 512 - 512 * n) (drop (512 * n) c)) ≡ putBlock c n b
+unfolding putBlock
+lent-put c n b y long fits e =
+    let w : length b ≡ length (take (512 * n + 512 - 512 * n) (drop (512 * n) c)) = simp (length-take, length-drop) (omega arith) in
+    let same : y ≡ b = copied b _ y w e in
+    rw same (lent-part c b (512 * n) (512 * n + 512) (omega arith) (omega arith))

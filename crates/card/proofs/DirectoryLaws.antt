@@ -1,0 +1,133 @@
+-- Directories: how a block is put, and that the whole directory is read back from its blocks.
+-- Assumes nothing.
+use Prim.Native.Nat.{ℕ, zero, suc, _+_, _-_, _*_, _/_, _%_, _≤_, _<_, min}
+use lib.ListN.{length, take, drop, getD, replicate, length-take, length-drop}
+use lib.Seq.{take-all, getD-take, getD-drop}
+use mathlib.Core.List.{List, [], _∷_, _++_}
+use mathlib.Core.Logic.{_⊎_, inl, inr}
+use mathlib.Core.Path.{_≡_, ap, sym, _∙_}
+use native.Mathlib.Nat.{zero-add}
+use native.Mathlib.Numerals.{add-one}
+use native.Mathlib.Omega.{arith}
+use Rattle.card.proofs.BytesLaws.{patch-on, tab-length, tab-more, tab-snoc, tab-drop, tab-take, tab-same, tab-list, Filled, U32, All, words-length, words-append, read-words, pairs-length, pairs-append, pairs-fit, pairs-first, pairs-second, pad-length, zeros-length, zeros-patch}
+use Rattle.card.proofs.Test.{le-or-lt}
+use Rattle.card.specs.Block.{blockAt}
+use Rattle.card.specs.Bytes.{part, patch, tabulate, pairs, getU32, words, pad, zeros}
+use Rattle.card.specs.Directory.{entryIn, entriesOf, entryNumbers, dirBlock, readEntry, entryOn, readDir}
+use Rattle.card.specs.Ring.{ringAt, dirBlocks}
+use Rattle.card.specs.declared.directory.Entry.{Entry}
+
+pub entries-length : (fs bs : List ℕ) (n : ℕ) → length (entriesOf fs bs n) ≡ n
+unfolding entriesOf
+entries-length fs bs n = tab-length (entryIn fs bs) 0 n
+
+abbrev frameOf : Entry → ℕ
+frameOf e = e .frame
+
+abbrev blockOf : Entry → ℕ
+blockOf e = e .block
+
+pub dirBlock-length : (es : List Entry) (j : ℕ) → length (dirBlock es j) ≡ 512
+unfolding dirBlock
+dirBlock-length es j = pad-length _ (simp (words-length, pairs-length frameOf blockOf, length-take, length-drop) (omega arith))
+
+-- ---- how a block is put
+
+module _ (fs bs : List ℕ) (from : ℕ) where
+  -- the bytes of k entries
+  abbrev pub frontBytes : ℕ → List ℕ
+  frontBytes k = words (entryNumbers (tabulate (entryIn fs bs) from k))
+
+  front-length : (k : ℕ) → length (frontBytes k) ≡ 8 * k
+  front-length k = words-length (entryNumbers (tabulate (entryIn fs bs) from k)) ∙ omega (arith, pairs-length frameOf blockOf (tabulate (entryIn fs bs) from k), tab-length (entryIn fs bs) from k)
+
+  -- one turn of the loop that puts them
+  pub front-more : (k f b : ℕ) → k < 64 → f ≡ getD fs (from + k) 0 → b ≡ getD bs (from + k) 0 → patch (patch zeros 0 (frontBytes k)) (8 * k) (words (f ∷ b ∷ [])) ≡ patch zeros 0 (frontBytes (k + 1))
+  unfolding pairs
+  front-more k f b h p q =
+      let long : length (words (f ∷ b ∷ [])) ≡ 8 = words-length (f ∷ b ∷ []) in
+      patch-on zeros (frontBytes k) (words (f ∷ b ∷ [])) (8 * k) (front-length k) (omega (arith, zeros-length))
+      ∙ ap (patch zeros 0) (sym (words-append (entryNumbers (tabulate (entryIn fs bs) from k)) (f ∷ b ∷ []))
+      ∙ ap words (rw (p, q, add-one, tab-snoc (entryIn fs bs) from k) (sym (pairs-append frameOf blockOf (tabulate (entryIn fs bs) from k) (entryIn fs bs (from + k) ∷ [])))))
+
+-- its end
+pub front-all : (fs bs : List ℕ) (count j : ℕ) → 64 * j ≤ count → patch zeros 0 (frontBytes fs bs (64 * j) (min 64 (count - 64 * j))) ≡ dirBlock (entriesOf fs bs count) j
+unfolding dirBlock entriesOf
+front-all fs bs count j h =
+    zeros-patch (frontBytes fs bs (64 * j) (min 64 (count - 64 * j)))
+    ∙ ap (λ (l : List Entry). pad (words (entryNumbers l))) (sym (rw (tab-drop (entryIn fs bs) 0 count (64 * j) h, zero-add) (taken (le-or-lt 64 (count - 64 * j)))))
+  where
+    taken : (64 ≤ count - 64 * j) ⊎ (count - 64 * j < 64) → take 64 (tabulate (entryIn fs bs) (64 * j) (count - 64 * j)) ≡ tabulate (entryIn fs bs) (64 * j) (min 64 (count - 64 * j))
+    taken (inl k) = let e : min 64 (count - 64 * j) ≡ 64 = omega arith in rw e (tab-take (entryIn fs bs) (64 * j) (count - 64 * j) 64 k)
+    taken (inr k) =
+        let e : min 64 (count - 64 * j) ≡ count - 64 * j = omega arith in
+        rw e (take-all 64 (tabulate (entryIn fs bs) (64 * j) (count - 64 * j)) (omega (arith, tab-length (entryIn fs bs) (64 * j) (count - 64 * j))))
+
+-- ---- that it is read back
+
+-- frame and block in 32 bits
+abbrev pub FitsEntry : Entry → Type 0
+FitsEntry e = U32 (e .frame) × U32 (e .block)
+
+abbrev pub noEntry : Entry
+noEntry = record { frame = 0; block = 0 }
+
+read-entry : (es : List Entry) (k : ℕ) (t : List ℕ) → All FitsEntry es → k < length es → readEntry (words (entryNumbers es) ++ t) k ≡ getD es k noEntry
+unfolding readEntry
+read-entry es k t fit h =
+    let p : 8 * k ≡ 4 * (2 * k) = omega arith in
+    let q : 8 * k + 4 ≡ 4 * (2 * k + 1) = omega arith in
+    let f : getU32 (words (entryNumbers es) ++ t) (8 * k) ≡ getD es k noEntry .frame =
+    rw p (read-words (entryNumbers es) (2 * k) t (pairs-fit frameOf blockOf es fit) (omega (arith, pairs-length frameOf blockOf es)) ∙ pairs-first frameOf blockOf es k noEntry h) in
+    let b : getU32 (words (entryNumbers es) ++ t) (8 * k + 4) ≡ getD es k noEntry .block =
+    rw q (read-words (entryNumbers es) (2 * k + 1) t (pairs-fit frameOf blockOf es fit) (omega (arith, pairs-length frameOf blockOf es)) ∙ pairs-second frameOf blockOf es k noEntry h) in
+    λ i. record { frame = f i; block = b i }
+
+all-take : (P : Entry → Type 0) (n : ℕ) (es : List Entry) → All P es → All P (take n es)
+all-take P zero es h = tt
+all-take P (suc n) [] h = tt
+all-take P (suc n) (e ∷ es) h = (h .0, all-take P n es (h .1))
+
+all-drop : (P : Entry → Type 0) (n : ℕ) (es : List Entry) → All P es → All P (drop n es)
+all-drop P zero es h = h
+all-drop P (suc n) [] h = tt
+all-drop P (suc n) (e ∷ es) h = all-drop P n es (h .1)
+
+-- entry i is read back from its directory block
+pub read-dirBlock : (es : List Entry) (i : ℕ) → All FitsEntry es → i < length es → readEntry (dirBlock es (i / 64)) (i % 64) ≡ getD es i noEntry
+unfolding dirBlock pad
+read-dirBlock es i fit h =
+    let part : List Entry = take 64 (drop (64 * (i / 64)) es) in
+    let long : i % 64 < length part = simp (length-take, length-drop) (omega arith) in
+    let back : 64 * (i / 64) + i % 64 ≡ i = omega arith in
+    read-entry part (i % 64) (replicate (512 - length (words (entryNumbers part))) 0) (all-take FitsEntry 64 (drop (64 * (i / 64)) es) (all-drop FitsEntry (64 * (i / 64)) es fit)) long
+    ∙ getD-take 64 (drop (64 * (i / 64)) es) (i % 64) noEntry (omega arith) ∙ getD-drop (64 * (i / 64)) es (i % 64) noEntry ∙ ap (λ (k : ℕ). getD es k noEntry) back
+
+-- the whole directory, from a card that has its blocks
+pub read-back : (c : List ℕ) (area first p : ℕ) (es : List Entry) → All FitsEntry es
+    → ((j : ℕ) → j < dirBlocks (length es) → blockAt c (ringAt area first (p + j)) ≡ dirBlock es j)
+    → readDir c area first p (length es) ≡ es
+unfolding readDir entryOn
+read-back c area first p es fit on =
+    tab-same (entryOn c area first p) (λ i. getD es i noEntry) 0 (length es)
+    (λ i a b. rw (on (i / 64) (omega arith)) (read-dirBlock es i fit (omega arith)))
+    ∙ tab-list noEntry es
+
+-- what is read depends on the directory's blocks alone
+pub readDir-same : (c d : List ℕ) (area first p n : ℕ) → ((j : ℕ) → j < dirBlocks n → blockAt d (ringAt area first (p + j)) ≡ blockAt c (ringAt area first (p + j)))
+    → readDir d area first p n ≡ readDir c area first p n
+unfolding readDir entryOn
+readDir-same c d area first p n same =
+    tab-same (entryOn d area first p) (entryOn c area first p) 0 n (λ i a b. ap (λ (x : List ℕ). readEntry x (i % 64)) (same (i / 64) (omega arith)))
+
+-- ---- code's directory, read and asked about
+
+pub entries-filled : (fs bs : List ℕ) (f : ℕ → Entry) (n : ℕ) → Filled (λ i. f i .frame) n fs → Filled (λ i. f i .block) n bs → entriesOf fs bs n ≡ tabulate f 0 n
+unfolding entriesOf
+entries-filled fs bs f n p q = tab-same (entryIn fs bs) f 0 n
+    (λ i a b. let x = p i (omega arith) in let y = q i (omega arith) in λ j. record { frame = x j; block = y j })
+
+-- one turn of a loop over entries
+pub entry-next : (fs bs : List ℕ) (i n f b : ℕ) → i < n → f ≡ getD fs i 0 → b ≡ getD bs i 0
+    → tabulate (entryIn fs bs) i (n - i) ≡ record { frame = f; block = b } ∷ tabulate (entryIn fs bs) (i + 1) (n - (i + 1))
+entry-next fs bs i n f b h p q = rw (p, q) (tab-more (entryIn fs bs) i n h)

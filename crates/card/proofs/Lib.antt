@@ -1,0 +1,15 @@
+-- Laws of the definitions in specs/, which belong to no one function.
+pub mod Test
+pub mod BytesLaws
+pub mod BlockLaws
+pub mod RingLaws
+pub mod RangeLaws
+pub mod AddressLaws
+pub mod LaneTable
+pub mod Table
+pub mod PotLaws
+pub mod HeaderLaws
+pub mod TrailerLaws
+pub mod DirectoryLaws
+pub mod QuestionLaws
+pub mod CheckpointLaws

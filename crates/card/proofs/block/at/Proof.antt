@@ -1,0 +1,18 @@
+-- `card::block::at` meets its contract.
+-- Assumes nothing.
+use borrow.Author.Needs.{needs}
+use denote.Ref.{now}
+use Rattle.card.proofs.BlockLaws.{lent-block}
+use Rattle.card.proofs.block.at.Statement.{statement}
+use Rattle.card.proofs.block.at.Tie as tie
+
+pub at-spec : {M : Type 1} → statement M
+at-spec =
+    tie.close
+    (tie.spec
+    (λ c. search needs)
+    (λ c. search needs)
+    (λ c. search needs)
+    (λ c. search needs)
+    (λ c. search needs)
+    (λ c. (lent-block (c .before .args .card .now) (c .before .args .n), search needs)))

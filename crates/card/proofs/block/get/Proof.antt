@@ -1,0 +1,17 @@
+-- `card::block::get` meets its contract.
+-- Assumes nothing.
+use borrow.Author.Needs.{needs}
+use mathlib.Core.Path.{_∙_}
+use native.Mathlib.Omega.{arith}
+use Rattle.card.proofs.BytesLaws.{copied}
+use Rattle.card.proofs.block.get.Statement.{statement}
+use Rattle.card.proofs.block.get.Tie as tie
+
+pub get-spec : {M : Type 1} → statement M
+get-spec =
+    tie.close
+    (tie.spec
+    (λ c κs. search needs)
+    (λ c κs. search needs)
+    (λ c. search needs)
+    (λ c. copied _ _ _ (omega (arith, c .before .before .before .before .at .ensures .1)) (c .before .before .copy .ensures .1) ∙ c .before .before .before .before .at .ensures .0))

@@ -1,0 +1,43 @@
+-- `card::checkpoint::read` meets its contract.
+-- Assumes nothing.
+use borrow.Author.Needs.{needs}
+use denote.Ref.{now}
+use mathlib.Core.Path.{ap, sym, _∙_}
+use native.Mathlib.Omega.{arith}
+use Rattle.card.proofs.CheckpointLaws.{whole-tells, refusal-is, refuse-3, refuse-header, uncommitted-asked, uncommitted-is, uncommitted-entries}
+use Rattle.card.proofs.Test.{said-no, said-yes}
+use Rattle.card.specs.Bytes.{tabulate}
+use Rattle.card.specs.Checkpoint.{HeaderPassed}
+use Rattle.card.specs.Directory.{entriesOf}
+use Rattle.card.specs.Header.{headerOn}
+use Rattle.card.proofs.checkpoint.read.Statement.{statement}
+use Rattle.card.proofs.checkpoint.read.Tie as tie
+
+returns-4 : tie.Need-returns-4
+unfolding entriesOf tabulate
+returns-4 c =
+    let ok : HeaderPassed (c .before .before .before .before .before .before .before .before .before .before .before .args .card .now) (c .before .before .before .before .before .before .read .result) = (record { card-whole = (said-yes (c .before .before .before .before .before .before .before .before .before .is-whole .ensures) (c .before .before .before .before .before .before .before .before .if1 .left)); header-is = (c .before .before .before .before .before .before .read .ensures ∙ ap headerOn (c .before .before .before .before .before .before .before .at .ensures .0)); passed = sym (c .before .before .before .before .before .question .ensures) ∙ c .before .before .before .before .if2 .left }) in
+    record {
+      number = sym (uncommitted-asked (c .before .before .before .before .before .before .before .before .before .before .before .args .card .now) (c .before .before .before .before .before .before .read .result) ok (c .before .before .if3 .left));
+      header-is = λ z. ok .header-is;
+      trailer-is = λ z. c .before .uncommitted .ensures ∙ sym (uncommitted-is (c .before .before .before .before .before .before .before .before .before .before .before .args .card .now) (c .before .before .before .before .before .before .read .result) ok (c .before .before .if3 .left));
+      entries-is = λ z. rw (c .empty .ensures .0) (sym (uncommitted-entries (c .before .before .before .before .before .before .before .before .before .before .before .args .card .now) (c .before .before .before .before .before .before .read .result) ok (c .before .before .if3 .left)));
+    }
+
+pub read-spec : {M : Type 1} → statement M
+read-spec =
+    tie.close
+    (tie.spec
+    (λ c κs. search needs)
+    (λ c κs. search needs)
+    (λ c. refusal-is _ _ 3 (omega arith) (c .refused .ensures) (refuse-3 _ (said-no (c .before .before .is-whole .ensures) (c .before .if1 .taken))))
+    (λ c κs. let w = whole-tells 11 65536 _ (said-yes (c .before .is-whole .ensures) (c .if1 .left)) in omega (arith, w .0, w .1 .0))
+    (λ c κs. search needs)
+    (λ c κs. search needs)
+    (λ c κs. search needs)
+    (λ c. refusal-is _ _ (c .before .before .question .result) (omega (arith, c .before .if2 .taken)) (c .refused2 .ensures) (refuse-header (c .before .before .before .before .before .before .before .before .args .card .now) (c .before .before .before .read .result) _ (said-yes (c .before .before .before .before .before .before .is-whole .ensures) (c .before .before .before .before .before .if1 .left)) (c .before .before .before .read .ensures ∙ ap headerOn (c .before .before .before .before .at .ensures .0)) (c .before .before .question .ensures) (c .before .if2 .taken)))
+    (λ c κs. ((record { card-whole = (said-yes (c .before .before .before .before .before .before .before .is-whole .ensures) (c .before .before .before .before .before .before .if1 .left)); header-is = (c .before .before .before .before .read .ensures ∙ ap headerOn (c .before .before .before .before .before .at .ensures .0)); passed = sym (c .before .before .before .question .ensures) ∙ c .before .before .if2 .left }), omega (arith, c .if3 .taken)))
+    (λ c. c .committed .ensures)
+    (λ c κs. search needs)
+    (λ c κs. search needs)
+    returns-4)

@@ -1,0 +1,63 @@
+-- `card::directory::block` meets its contract. The loop has put the first k entries of the block.
+-- Assumes nothing.
+use Prim.Native.Nat.{ℕ, _+_, _-_, _*_, _≤_, min}
+use denote.Ref.{now}
+use lib.ListN.{length, getD}
+use mathlib.Core.List.{List, [], _∷_}
+use mathlib.Core.Path.{_≡_, refl, ap, sym, _∙_}
+use native.Mathlib.Omega.{arith}
+use Rattle.card.proofs.BytesLaws.{patch-none, zeros-length}
+use Rattle.card.proofs.DirectoryLaws.{frontBytes, front-more, front-all}
+use Rattle.card.specs.Bytes.{patch, tabulate, pairs, words, zeros}
+use Rattle.card.proofs.directory.block.Statement.{statement}
+use Rattle.card.proofs.directory.block.Tie as tie
+
+abbrev Inv-loop : tie.InvT-loop
+Inv-loop frames blocks count j bytes₀ from n k₀ bytes k = (k ≤ n) × ((bytes ≡ patch zeros 0 (frontBytes frames blocks from k)) × (length bytes ≡ 512))
+
+abbrev μ-loop : tie.MeasureT-loop
+μ-loop frames blocks count j bytes₀ from n k₀ bytes k = n - k
+
+loop-holds : tie.Need-loop-holds Inv-loop μ-loop
+unfolding tabulate pairs words
+loop-holds c = (omega arith, (c .before .empty .ensures ∙ sym (patch-none zeros 0), ap length (c .before .empty .ensures) ∙ zeros-length))
+
+loop-again : tie.Need-loop-again Inv-loop μ-loop
+loop-again c =
+    let a = c .before .before .before .before .before .before .before .before .before .before .args in
+    let l = c .before .before .before .before .before .before .before .loop in
+    let p = c .before .put-words in
+    (omega arith, (p .ensures ∙ ap (λ (s : List ℕ). patch s (8 * l .k) (words (getD (a .frames .now) (64 * a .j + l .k) 0 ∷ getD (a .blocks .now) (64 * a .j + l .k) 0 ∷ []))) (l .inv .1 .0) ∙ front-more (a .frames .now) (a .blocks .now) (64 * a .j) (l .k) _ _ (omega arith) refl refl, omega (arith, p .kept .0)))
+
+returns : tie.Need-returns Inv-loop μ-loop
+returns c =
+    let a = c .before .before .before .before .args in
+    let l = c .before .loop in
+    let e : l .k ≡ min 64 (a .count - 64 * a .j) = omega arith in
+    rw e at (l .inv .1 .0) ∙ front-all (a .frames .now) (a .blocks .now) (a .count) (a .j) (c .before .before .before .before .pre .1)
+
+pub block-spec : {M : Type 1} → statement M
+block-spec =
+    tie.close
+    (tie.spec
+    Inv-loop
+    μ-loop
+    (λ c κs. omega arith)
+    (λ c. omega arith)
+    (λ c. omega arith)
+    (λ c κs. omega arith)
+    loop-holds
+    (λ c. omega arith)
+    (λ c. omega arith)
+    (λ c. omega arith)
+    (λ c. omega arith)
+    (λ c. omega arith)
+    (λ c. omega arith)
+    (λ c. omega arith)
+    (λ c. omega arith)
+    (λ c. omega arith)
+    (λ c κs. omega arith)
+    (λ c. omega arith)
+    (λ c. omega arith)
+    loop-again
+    returns)

@@ -1,0 +1,20 @@
+-- `card::pot::put_count` meets its contract.
+-- Assumes nothing.
+use Prim.Native.Nat.{ℕ}
+use borrow.Author.Needs.{needs}
+use denote.Ref.{now}
+use mathlib.Core.Path.{ap, _∙_}
+use Rattle.card.specs.Bytes.{putU32}
+use Rattle.card.specs.Pot.{putCount}
+use Rattle.card.proofs.pot.put_count.Statement.{statement}
+use Rattle.card.proofs.pot.put_count.Tie as tie
+
+pub put-count-spec : {M : Type 1} → statement M
+unfolding putCount
+put-count-spec =
+    tie.close
+    (tie.spec
+    (λ c κs. search needs)
+    (λ c κs. search needs)
+    (λ c. search needs)
+    (λ c. c .before .before .put-u32 .ensures ∙ ap (λ (k : ℕ). putU32 (c .before .before .before .before .before .before .args .pot .now) k (c .before .before .before .before .before .before .args .n)) (c .before .before .before .entry-at .ensures)))

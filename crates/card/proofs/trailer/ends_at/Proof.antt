@@ -1,0 +1,20 @@
+-- `card::trailer::ends_at` meets its contract.
+-- Assumes nothing.
+use borrow.Author.Needs.{needs}
+use borrow.Author.Tests.{le-leb, lt-leb}
+use native.Mathlib.Omega.{arith}
+use Rattle.card.proofs.RingLaws.{size-some}
+use Rattle.card.specs.Question.{endsAt}
+use Rattle.card.proofs.trailer.ends_at.Statement.{statement}
+use Rattle.card.proofs.trailer.ends_at.Tie as tie
+
+pub ends-at-spec : {M : Type 1} → statement M
+unfolding endsAt
+ends-at-spec =
+    tie.close
+    (tie.spec
+    (λ c κs. search needs)
+    (λ c. rw (← c .before .size .ensures, lt-leb _ _ (c .if1 .taken)))
+    (λ c. omega (arith, c .before .size .ensures, size-some (c .before .before .args .p) (c .before .before .args .e) (c .before .before .pre .1 .1 .1 .0)))
+    (λ c κs. search needs)
+    (λ c. rw (← c .before .before .size .ensures, le-leb _ _ (c .before .if1 .left), c .at .ensures)))

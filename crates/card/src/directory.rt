@@ -1,0 +1,155 @@
+// Directories: what is put into their blocks, what is read back, and question 8.
+use super::block;
+use super::number;
+use super::ring;
+ghost use mathlib.Core.Path.{_≡_};
+ghost use mathlib.Core.Bool.{_&&_};
+ghost use Prim.Native.Nat.{_+_, _*_, _/_, _≤_, _<_, min};
+ghost use lib.Dec.{leb, ltb};
+ghost use lib.ListN.{length};
+ghost use Rattle.card.specs.Ring.{ringOffset, dirBlocks};
+ghost use Rattle.card.specs.Directory.{entriesOf, dirBlock, entryOn, readDir};
+ghost use Rattle.card.specs.Question.{entriesFit};
+
+// A frame, by its home block, and the area block that holds it.
+#[repr(C)]
+pub struct Entry {
+    pub frame: u32,
+    pub block: u32,
+}
+
+// Entries in two arrays, of which the first `count` matter.
+#[repr(C)]
+pub struct Directory {
+    pub count: usize,
+    pub frames: [u32; 256],
+    pub blocks: [u32; 256],
+}
+
+pub fn empty() -> Directory
+    ensures { λ r. ⌜ (r .count ≡ 0) × ((length (r .frames) ≡ 256) × (length (r .blocks) ≡ 256)) ⌝ }
+{
+    Directory {
+        count: 0,
+        frames: [0u32; 256],
+        blocks: [0u32; 256],
+    }
+}
+
+// How many of n entries go into one block.
+fn share(n: usize) -> usize
+    ensures { λ r. ⌜ r ≡ min 64 n ⌝ }
+{
+    if n < 64 {
+        return n;
+    }
+    64
+}
+
+// The j-th block of a directory.
+pub fn block<'a>(
+    frames: &'a [u32; 256],
+    blocks: &'a [u32; 256],
+    count: usize,
+    j: usize,
+) -> [u8; 512]
+    requires { ⌜ (count ≤ 256) × (64 * j ≤ count) ⌝ }
+    ensures { λ r. ⌜ r ≡ dirBlock (entriesOf (now (frames .entry)) (now (blocks .entry)) count) j ⌝ }
+{
+    let mut bytes = block::empty();
+    let from = 64 * j;
+    let n = share(count - from);
+    let mut k = 0;
+    while k < n {
+        let entry = [frames[from + k], blocks[from + k]];
+        number::put_words(&mut bytes, 8 * k, &entry, 2);
+        k += 1;
+    }
+    bytes
+}
+
+// Entry i of the directory behind p page blocks from first on.
+fn entry_on(card: &[u8], area: usize, first: usize, p: usize, i: usize) -> Entry
+    requires { ⌜ (512 * area + 512 ≤ length (now card)) × ((area ≤ 512) × ((first ≤ area) × (p + i / 64 ≤ area))) ⌝ }
+    ensures { λ r. ⌜ r ≡ entryOn (now (card .entry)) area first p i ⌝ }
+{
+    let bytes = block::at(card, ring::at(area, first, p + i / 64));
+    let at = 8 * (i % 64);
+    let frame = number::get_u32(bytes, at);
+    let block = number::get_u32(bytes, at + 4);
+    Entry {
+        frame: frame,
+        block: block,
+    }
+}
+
+// The directory of e entries behind p page blocks from first on.
+pub fn read(card: &[u8], area: usize, first: usize, p: usize, e: usize) -> Directory
+    requires { ⌜ (512 * area + 512 ≤ length (now card)) × ((area ≤ 512) × ((first ≤ area) × ((p + dirBlocks e ≤ area) × (e ≤ 256)))) ⌝ }
+    ensures { λ r. ⌜ (r .count ≡ e) × (entriesOf (r .frames) (r .blocks) e ≡ readDir (now (card .entry)) area first p e) ⌝ }
+{
+    let mut d = empty();
+    let mut i = 0;
+    while i < e {
+        let x = entry_on(card, area, first, p, i);
+        d.frames[i] = x.frame;
+        d.blocks[i] = x.block;
+        i += 1;
+    }
+    d.count = e;
+    d
+}
+
+// Is an entry above the frame before it, of a home frame, and with a block among the p page blocks from first on?
+fn entry_fits(
+    blocks: usize,
+    area: usize,
+    first: usize,
+    p: usize,
+    low: usize,
+    frame: usize,
+    block: usize,
+) -> bool
+    requires { ⌜ (area ≤ 512) × (first ≤ area) ⌝ }
+    ensures { λ r. ⌜ r ≡ ltb low frame && (ltb frame blocks && (leb 1 block && (leb block area && ltb (ringOffset area first block) p))) ⌝ }
+{
+    if frame <= low {
+        return false;
+    }
+    if blocks <= frame {
+        return false;
+    }
+    if block < 1 {
+        return false;
+    }
+    if area < block {
+        return false;
+    }
+    ring::offset(area, first, block) < p
+}
+
+// Question 8.
+pub fn fits<'a>(
+    card: usize,
+    area: usize,
+    first: usize,
+    p: usize,
+    frames: &'a [u32; 256],
+    blocks: &'a [u32; 256],
+    count: usize,
+) -> bool
+    requires { ⌜ (area ≤ 512) × ((first ≤ area) × (count ≤ 256)) ⌝ }
+    ensures { λ r. ⌜ r ≡ entriesFit card area first p area (entriesOf (now (frames .entry)) (now (blocks .entry)) count) ⌝ }
+{
+    let mut low = area;
+    let mut i = 0;
+    while i < count {
+        let frame = number::wide(frames[i]);
+        if !entry_fits(card, area, first, p, low, frame, number::wide(blocks[i])) {
+            return false;
+        }
+        low = frame;
+        i += 1;
+    }
+    true
+}

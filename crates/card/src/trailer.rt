@@ -1,0 +1,83 @@
+// The trailer of a generation: what is put, what is read back, and question 7.
+use super::block;
+use super::header::Header;
+use super::number;
+use super::ring;
+ghost use mathlib.Core.Path.{_≡_};
+ghost use Prim.Native.Nat.{_+_, _*_, _≤_, _<_};
+ghost use lib.ListN.{length};
+ghost use Rattle.card.specs.Trailer.{trailerBlock, trailerOn};
+ghost use Rattle.card.specs.Question.{endsAt, trailerFits};
+
+// Commit number, first block, p and e of a generation.
+#[repr(C)]
+pub struct Trailer {
+    pub commit: u32,
+    pub first: u32,
+    pub pages: u32,
+    pub entries: u32,
+}
+
+pub fn block(t: Trailer) -> [u8; 512]
+    ensures { λ r. ⌜ r ≡ trailerBlock t ⌝ }
+{
+    let mut bytes = block::empty();
+    let numbers = [t.commit, t.first, t.pages, t.entries];
+    number::put_words(&mut bytes, 496, &numbers, 4);
+    bytes
+}
+
+pub fn read(bytes: &[u8]) -> Trailer
+    requires { ⌜ length (now bytes) ≡ 512 ⌝ }
+    ensures { λ r. ⌜ r ≡ trailerOn (now (bytes .entry)) ⌝ }
+{
+    let commit = number::get_u32(bytes, 496);
+    let first = number::get_u32(bytes, 500);
+    let pages = number::get_u32(bytes, 504);
+    let entries = number::get_u32(bytes, 508);
+    Trailer {
+        commit: commit,
+        first: first,
+        pages: pages,
+        entries: entries,
+    }
+}
+
+// Is the size of a generation of p and e at most H, and n its last block?
+fn ends_at(area: usize, first: usize, p: usize, e: usize, n: usize) -> bool
+    requires { ⌜ (area ≤ 512) × ((first ≤ area) × ((p < 4294967296) × ((1 ≤ e) × (e < 4294967296)))) ⌝ }
+    ensures { λ r. ⌜ r ≡ endsAt area first p e n ⌝ }
+{
+    let size = ring::size(p, e);
+    if area / 2 < size {
+        return false;
+    }
+    ring::at(area, first, size - 1) == n
+}
+
+// Question 7, of the trailer that a header names.
+pub fn fits(h: Header, t: Trailer) -> bool
+    requires { ⌜ h .area ≤ 512 ⌝ }
+    ensures { λ r. ⌜ r ≡ trailerFits h t ⌝ }
+{
+    let area = number::wide(h.area);
+    let first = number::wide(t.first);
+    let p = number::wide(t.pages);
+    let e = number::wide(t.entries);
+    if t.commit != h.commit {
+        return false;
+    }
+    if first < 1 {
+        return false;
+    }
+    if area < first {
+        return false;
+    }
+    if e < 1 {
+        return false;
+    }
+    if p < e {
+        return false;
+    }
+    ends_at(area, first, p, e, number::wide(h.trailer))
+}
