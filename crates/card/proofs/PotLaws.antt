@@ -1,10 +1,8 @@
 -- Laws of pots: what is put is read back, other pages' entries and the last two bytes are kept, and the seven other flag bits too.
 -- Assumes nothing.
-
--- ---- bit 0, and the other seven bits of the flags
 use Prim.Native.Nat.{ℕ, zero, suc, _+_, _-_, _*_, _/_, _%_, _≤_, _<_}
 use borrow.Author.Tests.{eq-eqb, ne-eqb}
-use lib.ListN.{length, getD, replicate, length-append}
+use lib.ListN.{length, getD, replicate, length-append, List·getD-append}
 use mathlib.Core.Bool.{true, false}
 use mathlib.Core.List.{List, [], _∷_, _++_, append-assoc}
 use mathlib.Core.Logic.{_≢_}
@@ -12,8 +10,10 @@ use mathlib.Core.Path.{_≡_, refl, ap, sym, _∙_}
 use native.Mathlib.Numerals.{add-one}
 use native.Mathlib.Omega.{arith}
 use Rattle.card.proofs.BytesLaws.{patch-length, patch-other, patch-in, getU32-other, patch-on, u32-length, getU32-putU32, zeros-length, zeros-patch}
-use Rattle.card.specs.Bytes.{patch, u32Bytes, pad, zeros}
+use Rattle.card.specs.Bytes.{patch, u32Bytes, getU32, pad, zeros}
 use Rattle.card.specs.Pot.{countAt, flagsAt, putCount, putFlags, isZero, setZero, clearZero, freshEntries, freshPot}
+
+-- ---- bit 0, and the other seven bits of the flags
 
 module _ (flags : ℕ) where
   pub set-is : isZero (setZero flags) ≡ true
@@ -122,3 +122,26 @@ fresh-all = zeros-patch (freshEntries 102) ∙ ap (λ (k : ℕ). freshEntries 10
 pub freshPot-length : length freshPot ≡ 512
 unfolding freshPot
 freshPot-length = length-append (freshEntries 102) (0 ∷ 0 ∷ []) ∙ omega (arith, fresh-length 102)
+
+-- byte j of entry i
+fresh-byte : (n i j : ℕ) (t : List ℕ) → i < n → j < 5 → getD (freshEntries n ++ t) (5 * i + j) 0 ≡ getD (0 ∷ 0 ∷ 0 ∷ 0 ∷ 1 ∷ []) j 0
+unfolding freshEntries
+fresh-byte zero i j t h k = absurd (omega arith)
+fresh-byte (suc n) zero j t h k = let e : 5 * 0 + j ≡ j = omega arith in rw e (List·getD-append (0 ∷ 0 ∷ 0 ∷ 0 ∷ 1 ∷ []) (freshEntries n ++ t) 0 j k)
+fresh-byte (suc n) (suc i) j t h k =
+    let e : 5 * suc i + j ≡ suc (suc (suc (suc (suc (5 * i + j))))) = omega arith in
+    rw e (fresh-byte n i j t (omega arith) k)
+
+pub fresh-count : (i : ℕ) → i < 102 → countAt freshPot i ≡ 0
+unfolding countAt getU32 freshPot
+fresh-count i h =
+    let e : 5 * i ≡ 5 * i + 0 = omega arith in
+    let b0 : getD (freshEntries 102 ++ (0 ∷ 0 ∷ [])) (5 * i) 0 ≡ 0 = rw e (fresh-byte 102 i 0 (0 ∷ 0 ∷ []) h (omega arith)) in
+    let b1 = fresh-byte 102 i 1 (0 ∷ 0 ∷ []) h (omega arith) in
+    let b2 = fresh-byte 102 i 2 (0 ∷ 0 ∷ []) h (omega arith) in
+    let b3 = fresh-byte 102 i 3 (0 ∷ 0 ∷ []) h (omega arith) in
+    omega (arith, b0, b1, b2, b3)
+
+pub fresh-flags : (i : ℕ) → i < 102 → flagsAt freshPot i ≡ 1
+unfolding flagsAt freshPot
+fresh-flags i h = fresh-byte 102 i 4 (0 ∷ 0 ∷ []) h (omega arith)

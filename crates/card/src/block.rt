@@ -1,6 +1,6 @@
 // Blocks of a card: 512 bytes, lent as parts that start inside the card.
 ghost use mathlib.Core.Path.{_≡_};
-ghost use Prim.Native.Nat.{_+_, _*_, _≤_, _<_};
+ghost use Prim.Native.Nat.{_+_, _*_, _≤_};
 ghost use lib.ListN.{length};
 ghost use Rattle.card.specs.Bytes.{zeros};
 ghost use Rattle.card.specs.Block.{blockAt, putBlock, whole};
@@ -41,9 +41,9 @@ pub fn put(card: &mut [u8], n: usize, bytes: &[u8])
     requires { ⌜ (512 * n + 512 ≤ length (now card)) × (length (now bytes) ≡ 512) ⌝ }
     ensures { λ _. ⌜ now (card .exit) ≡ putBlock (now (card .entry)) n (now (bytes .entry)) ⌝ }
 {
-    let a = 512 * n;
-    let e = a + 512;
-    bytes::copy(bytes, &mut card[a..e]);
+    let start = 512 * n;
+    let end = start + 512;
+    bytes::copy(bytes, &mut card[start..end]);
 }
 
 // Copies a block into a buffer.

@@ -2,7 +2,7 @@
 ghost use mathlib.Core.Path.{_≡_};
 ghost use Prim.Native.Nat.{_+_, _*_, _≤_, _<_};
 ghost use lib.ListN.{length, take};
-ghost use Rattle.card.specs.Bytes.{getU32, putU32, words, readWords, patch};
+ghost use Rattle.card.specs.Bytes.{getU32, putU32, words, patch};
 
 fn wide_byte(x: u8) -> u32
     ensures { λ r. ⌜ (r ≡ x) × (r < 256) ⌝ }

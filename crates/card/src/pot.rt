@@ -2,7 +2,7 @@
 use super::block;
 use super::number;
 ghost use mathlib.Core.Path.{_≡_};
-ghost use Prim.Native.Nat.{_+_, _*_, _≤_, _<_};
+ghost use Prim.Native.Nat.{_<_};
 ghost use lib.ListN.{length};
 ghost use Rattle.card.specs.Pot.{entryAt, countAt, flagsAt, putCount, putFlags, isZero, setZero, clearZero, freshPot};
 

@@ -2,7 +2,7 @@
 use super::number::wide;
 ghost use mathlib.Core.Path.{_≡_};
 ghost use mathlib.Core.Bool.{_&&_};
-ghost use Prim.Native.Nat.{_+_, _*_, _≤_, _<_};
+ghost use Prim.Native.Nat.{_+_, _≤_, _<_};
 ghost use lib.Dec.{leb, ltb};
 ghost use Rattle.card.specs.Range.{rangesOf, rangesFill, rangeBlocks, geometryFits, addressIn, locate};
 

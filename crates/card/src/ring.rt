@@ -1,6 +1,6 @@
 // The ring of the checkpoint area, blocks 1 to area, and the sizes of generations in it.
 ghost use mathlib.Core.Path.{_≡_};
-ghost use Prim.Native.Nat.{_+_, _*_, _≤_, _<_};
+ghost use Prim.Native.Nat.{_≤_, _<_};
 ghost use Rattle.card.specs.Ring.{ringAt, ringOffset, generationSize};
 
 // The block i places on from first.

@@ -4,7 +4,7 @@ use super::header::Header;
 use super::number;
 use super::ring;
 ghost use mathlib.Core.Path.{_≡_};
-ghost use Prim.Native.Nat.{_+_, _*_, _≤_, _<_};
+ghost use Prim.Native.Nat.{_≤_, _<_};
 ghost use lib.ListN.{length};
 ghost use Rattle.card.specs.Trailer.{trailerBlock, trailerOn};
 ghost use Rattle.card.specs.Question.{endsAt, trailerFits};
