@@ -36,8 +36,8 @@ whole-tells low high n e =
     (omega arith, (leb-true _ _ (b .0), leb-true _ _ (b .1)))
 
 -- a refusal by the first "no"
-pub refusal-is : (c : List ℕ) (r : Checkpoint) (n : ℕ) → 0 < n → r .refusal ≡ n → firstNo (cardAsks c) ≡ n → Recovered c r
-refusal-is c r n h e f = record {
+pub refusal-is : {c : List ℕ} {r : Checkpoint} (n : ℕ) → 0 < n → r .refusal ≡ n → firstNo (cardAsks c) ≡ n → Recovered c r
+refusal-is n h e f = record {
   number = e ∙ sym f;
   header-is = λ z. absurd (omega arith);
   trailer-is = λ z. absurd (omega arith);
@@ -56,7 +56,7 @@ refuse-header c h n w e f ne =
     asked-yes 3 (whole 11 65536 (length c)) _ w
     ∙ rw (← e) (group-no (headerAsks (length c / 512) h) (generationAsks c) (λ z. ne (f ∙ z)) ∙ sym f)
 
-module _ (c : List ℕ) (h : Header) (ok : HeaderPassed c h) where
+module _ {c : List ℕ} {h : Header} (ok : HeaderPassed c h) where
   asked : firstNo (cardAsks c) ≡ firstNo (generationAsks c)
   unfolding cardAsks headerAsks
   asked =
@@ -85,7 +85,7 @@ module _ (c : List ℕ) (h : Header) (ok : HeaderPassed c h) where
   unfolding entriesOn readDir tabulate
   uncommitted-entries z = rw (uncommitted-is z)
 
-  module _ (some : 0 < h .commit) (t : Trailer) (t-is : t ≡ trailerOn (blockAt c (h .trailer))) where
+  module _ (some : 0 < h .commit) {t : Trailer} (t-is : t ≡ trailerOn (blockAt c (h .trailer))) where
     pub committed-is : committedOn c ≡ t
     unfolding committedOn
     committed-is = rw (← ok .header-is, ne-eqb (h .commit) 0 (omega arith), t-is)
@@ -103,18 +103,15 @@ module _ (c : List ℕ) (h : Header) (ok : HeaderPassed c h) where
     pub refuse-7 : trailerFits h t ≡ false → firstNo (cardAsks c) ≡ 7
     refuse-7 e = committed-asked ∙ asked-no 7 (trailerFits h t) _ e
 
+    pub directory-bounds : trailerFits h t ≡ true → (t .first ≤ h .area) × ((t .pages + dirBlocks (t .entries) ≤ h .area) × (t .entries ≤ 256))
+    directory-bounds q = omega (arith, trailer-tells h t q, passed-area .0)
+
     -- the directory that the trailer tells of, as code reads it
-    module _ (area first p e : ℕ) (a-is : area ≡ h .area) (f-is : first ≡ t .first) (p-is : p ≡ t .pages) (e-is : e ≡ t .entries) where
-      pub directory-bounds : trailerFits h t ≡ true → (first ≤ area) × ((p + dirBlocks e ≤ area) × (e ≤ 256))
-      directory-bounds q = rw (a-is, f-is, p-is, e-is) (omega (arith, trailer-tells h t q, passed-area .0))
+    module _ (d : Directory) (count : d .count ≡ t .entries) (read : entriesOf (d .frames) (d .blocks) (t .entries) ≡ readDir c (h .area) (t .first) (t .pages) (t .entries)) where
+      pub directory-is : entriesOf (d .frames) (d .blocks) (d .count) ≡ entriesOn c
+      directory-is = rw count (read ∙ sym entries-are)
 
-      module _ (d : Directory) (count : d .count ≡ e) (read : entriesOf (d .frames) (d .blocks) e ≡ readDir c area first p e) where
-        pub directory-is : entriesOf (d .frames) (d .blocks) (d .count) ≡ entriesOn c
-        directory-is = rw count (read ∙ rw (a-is, f-is, p-is, e-is) (sym entries-are))
-
-        pub last-asked : (b : Bool) → trailerFits h t ≡ true → entriesFit (length c / 512) area first p area (entriesOf (d .frames) (d .blocks) (d .count)) ≡ b → firstNo (cardAsks c) ≡ cond b 0 8
-        unfolding firstNo
-        last-asked b q f =
-            let g : entriesFit (length c / 512) (h .area) (t .first) (t .pages) (h .area) (readDir c (h .area) (t .first) (t .pages) (t .entries)) ≡ b =
-            rw (directory-is, entries-are, a-is, f-is, p-is) at f in
-            committed-asked ∙ rw (q, g)
+      pub last-asked : (b : Bool) → trailerFits h t ≡ true → entriesFit (length c / 512) (h .area) (t .first) (t .pages) (h .area) (entriesOf (d .frames) (d .blocks) (d .count)) ≡ b
+          → firstNo (cardAsks c) ≡ cond b 0 8
+      unfolding firstNo
+      last-asked b q f = committed-asked ∙ rw (q, rw (directory-is, entries-are) at f)

@@ -4,7 +4,6 @@ use super::directory;
 use super::directory::Directory;
 use super::header;
 use super::header::Header;
-use super::number;
 use super::trailer;
 use super::trailer::Trailer;
 ghost use mathlib.Core.Path.{_≡_};
@@ -58,19 +57,16 @@ fn committed(card: &[u8], h: Header) -> Checkpoint
     requires { ⌜ HeaderPassed (now card) h × (0 < h .commit) ⌝ }
     ensures { λ r. ⌜ Recovered (now (card .entry)) r ⌝ }
 {
-    let t = trailer::read(block::at(card, number::wide(h.trailer)));
+    let t = trailer::read(block::at(card, h.trailer));
     if !trailer::fits(h, t) {
         return refused(7);
     }
-    let area = number::wide(h.area);
-    let first = number::wide(t.first);
-    let p = number::wide(t.pages);
-    let d = directory::read(card, area, first, p, number::wide(t.entries));
+    let d = directory::read(card, h.area, t.first, t.pages, t.entries);
     if !directory::fits(
         card.len() / 512,
-        area,
-        first,
-        p,
+        h.area,
+        t.first,
+        t.pages,
         &d.frames,
         &d.blocks,
         d.count,

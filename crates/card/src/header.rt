@@ -3,7 +3,7 @@ use super::block;
 use super::number;
 use super::range;
 ghost use mathlib.Core.Path.{_≡_};
-ghost use Prim.Native.Nat.{_≤_};
+ghost use Prim.Native.Nat.{_≤_, _<_};
 ghost use lib.ListN.{length};
 ghost use Rattle.card.specs.Bytes.{readWords};
 ghost use Rattle.card.specs.Range.{rangesOf};
@@ -15,21 +15,30 @@ ghost use Rattle.card.specs.Question.{firstNo, commitFits, headerAsks};
 pub struct Header {
     pub layout: u32,
     pub commit: u32,
-    pub trailer: u32,
-    pub area: u32,
-    pub count: u32,
+    pub trailer: usize,
+    pub area: usize,
+    pub count: usize,
     pub ranges: [u32; 16],
 }
 
 // The header of a card.
-pub fn block(commit: u32, trailer: u32, area: u32, ranges: &[u32; 16], count: u32) -> [u8; 512]
-    requires { ⌜ count ≤ 8 ⌝ }
+pub fn block(
+    commit: u32,
+    trailer: usize,
+    area: usize,
+    ranges: &[u32; 16],
+    count: usize,
+) -> [u8; 512]
+    requires { ⌜ (trailer < 4294967296) × ((area < 4294967296) × (count ≤ 8)) ⌝ }
     ensures { λ r. ⌜ r ≡ headerBlock commit trailer area (rangesOf (now (ranges .entry)) count) ⌝ }
 {
+    let t = number::narrow(trailer);
+    let a = number::narrow(area);
+    let n = number::narrow(count);
+    let fixed = [1, commit, t, a, n];
     let mut bytes = block::empty();
-    let fixed = [1, commit, trailer, area, count];
     number::put_words(&mut bytes, 0, &fixed, 5);
-    number::put_words(&mut bytes, 20, ranges, 2 * number::wide(count));
+    number::put_words(&mut bytes, 20, ranges, 2 * count);
     bytes
 }
 
@@ -52,9 +61,9 @@ pub fn read(bytes: &[u8]) -> Header
 {
     let layout = number::get_u32(bytes, 0);
     let commit = number::get_u32(bytes, 4);
-    let trailer = number::get_u32(bytes, 8);
-    let area = number::get_u32(bytes, 12);
-    let count = number::get_u32(bytes, 16);
+    let trailer = number::wide(number::get_u32(bytes, 8));
+    let area = number::wide(number::get_u32(bytes, 12));
+    let count = number::wide(number::get_u32(bytes, 16));
     let ranges = read_ranges(bytes);
     Header {
         layout: layout,
@@ -66,7 +75,7 @@ pub fn read(bytes: &[u8]) -> Header
     }
 }
 
-fn commit_fits(commit: u32, trailer: u32, area: u32) -> bool
+fn commit_fits(commit: u32, trailer: usize, area: usize) -> bool
     ensures { λ r. ⌜ r ≡ commitFits commit trailer area ⌝ }
 {
     if commit == 0 {
@@ -85,12 +94,7 @@ pub fn question(h: Header, blocks: usize) -> u32
     if h.layout != 1 {
         return 4;
     }
-    if !range::fits(
-        blocks,
-        number::wide(h.area),
-        &h.ranges,
-        number::wide(h.count),
-    ) {
+    if !range::fits(blocks, h.area, &h.ranges, h.count) {
         return 5;
     }
     if !commit_fits(h.commit, h.trailer, h.area) {

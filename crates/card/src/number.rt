@@ -16,6 +16,13 @@ pub fn wide(x: u32) -> usize
     x as usize
 }
 
+pub fn narrow(x: usize) -> u32
+    requires { ⌜ x < 4294967296 ⌝ }
+    ensures { λ r. ⌜ r ≡ x ⌝ }
+{
+    x as u32
+}
+
 // The number in the four bytes from `at`.
 pub fn get_u32(s: &[u8], at: usize) -> u32
     requires { ⌜ at + 4 ≤ length (now s) ⌝ }

@@ -13,16 +13,20 @@ ghost use Rattle.card.specs.Question.{endsAt, trailerFits};
 #[repr(C)]
 pub struct Trailer {
     pub commit: u32,
-    pub first: u32,
-    pub pages: u32,
-    pub entries: u32,
+    pub first: usize,
+    pub pages: usize,
+    pub entries: usize,
 }
 
 pub fn block(t: Trailer) -> [u8; 512]
+    requires { ⌜ (t .first < 4294967296) × ((t .pages < 4294967296) × (t .entries < 4294967296)) ⌝ }
     ensures { λ r. ⌜ r ≡ trailerBlock t ⌝ }
 {
+    let first = number::narrow(t.first);
+    let pages = number::narrow(t.pages);
+    let entries = number::narrow(t.entries);
+    let numbers = [t.commit, first, pages, entries];
     let mut bytes = block::empty();
-    let numbers = [t.commit, t.first, t.pages, t.entries];
     number::put_words(&mut bytes, 496, &numbers, 4);
     bytes
 }
@@ -32,9 +36,9 @@ pub fn read(bytes: &[u8]) -> Trailer
     ensures { λ r. ⌜ r ≡ trailerOn (now (bytes .entry)) ⌝ }
 {
     let commit = number::get_u32(bytes, 496);
-    let first = number::get_u32(bytes, 500);
-    let pages = number::get_u32(bytes, 504);
-    let entries = number::get_u32(bytes, 508);
+    let first = number::wide(number::get_u32(bytes, 500));
+    let pages = number::wide(number::get_u32(bytes, 504));
+    let entries = number::wide(number::get_u32(bytes, 508));
     Trailer {
         commit: commit,
         first: first,
@@ -45,9 +49,12 @@ pub fn read(bytes: &[u8]) -> Trailer
 
 // Is the size of a generation of p and e at most H, and n its last block?
 fn ends_at(area: usize, first: usize, p: usize, e: usize, n: usize) -> bool
-    requires { ⌜ (area ≤ 512) × ((first ≤ area) × ((p < 4294967296) × ((1 ≤ e) × (e < 4294967296)))) ⌝ }
+    requires { ⌜ (area ≤ 512) × ((first ≤ area) × ((1 ≤ e) × (e ≤ p))) ⌝ }
     ensures { λ r. ⌜ r ≡ endsAt area first p e n ⌝ }
 {
+    if area / 2 < p {
+        return false;
+    }
     let size = ring::size(p, e);
     if area / 2 < size {
         return false;
@@ -60,24 +67,20 @@ pub fn fits(h: Header, t: Trailer) -> bool
     requires { ⌜ h .area ≤ 512 ⌝ }
     ensures { λ r. ⌜ r ≡ trailerFits h t ⌝ }
 {
-    let area = number::wide(h.area);
-    let first = number::wide(t.first);
-    let p = number::wide(t.pages);
-    let e = number::wide(t.entries);
     if t.commit != h.commit {
         return false;
     }
-    if first < 1 {
+    if t.first < 1 {
         return false;
     }
-    if area < first {
+    if h.area < t.first {
         return false;
     }
-    if e < 1 {
+    if t.entries < 1 {
         return false;
     }
-    if p < e {
+    if t.pages < t.entries {
         return false;
     }
-    ends_at(area, first, p, e, number::wide(h.trailer))
+    ends_at(h.area, t.first, t.pages, t.entries, h.trailer)
 }

@@ -7,6 +7,11 @@ use Rattle.card.proofs.BytesLaws.{copied}
 use Rattle.card.proofs.block.get.Statement.{statement}
 use Rattle.card.proofs.block.get.Tie as tie
 
+returns : tie.Need-returns
+returns c =
+    let at-at = c .before .before .before .before .at in
+    copied _ _ _ (omega (arith, at-at .ensures .1)) (c .before .before .copy .ensures .1) ∙ at-at .ensures .0
+
 pub get-spec : {M : Type 1} → statement M
 get-spec =
     tie.close
@@ -14,4 +19,4 @@ get-spec =
     (λ c κs. search needs)
     (λ c κs. search needs)
     (λ c. search needs)
-    (λ c. copied _ _ _ (omega (arith, c .before .before .before .before .at .ensures .1)) (c .before .before .copy .ensures .1) ∙ c .before .before .before .before .at .ensures .0))
+    returns)

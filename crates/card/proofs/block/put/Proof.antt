@@ -6,6 +6,11 @@ use Rattle.card.proofs.BlockLaws.{lent-put}
 use Rattle.card.proofs.block.put.Statement.{statement}
 use Rattle.card.proofs.block.put.Tie as tie
 
+returns : tie.Need-returns
+returns c =
+    let at-start = c .before .before .before .before .before .before in
+    lent-put (at-start .args .card .now) (at-start .args .n) (at-start .args .bytes .now) _ (at-start .pre .1) (at-start .pre .0) (c .before .before .copy .ensures .1)
+
 pub put-spec : {M : Type 1} → statement M
 put-spec =
     tie.close
@@ -17,4 +22,4 @@ put-spec =
     (λ c. search needs)
     (λ c κs. search needs)
     (λ c. search needs)
-    (λ c. lent-put (c .before .before .before .before .before .before .args .card .now) (c .before .before .before .before .before .before .args .n) (c .before .before .before .before .before .before .args .bytes .now) _ (c .before .before .before .before .before .before .pre .1) (c .before .before .before .before .before .before .pre .0) (c .before .before .copy .ensures .1)))
+    returns)

@@ -1,54 +1,70 @@
 -- `card::checkpoint::committed` meets its contract.
 -- Assumes nothing.
 use borrow.Author.Needs.{needs}
-use denote.Ref.{now}
 use mathlib.Core.Bool.{true, false}
 use mathlib.Core.Path.{ap, sym, _∙_}
 use native.Mathlib.Omega.{arith}
 use Rattle.card.proofs.CheckpointLaws.{refusal-is, passed-area, passed-trailer, committed-is, refuse-7, directory-bounds, directory-is, last-asked}
 use Rattle.card.proofs.Test.{said-no, said-yes}
-use Rattle.card.specs.Block.{blockAt}
 use Rattle.card.specs.Trailer.{trailerOn}
 use Rattle.card.proofs.checkpoint.committed.Statement.{statement}
 use Rattle.card.proofs.checkpoint.committed.Tie as tie
 
+returns : tie.Need-returns
+returns c =
+    let at-start = c .before .before .before .before .before .before in
+    refusal-is 7 (omega arith) (c .refused .ensures) (refuse-7 (at-start .pre .0) (at-start .pre .1) (c .before .before .before .read .ensures ∙ ap trailerOn (c .before .before .before .before .at .ensures .0)) (said-no (c .before .before .fits2 .ensures) (c .before .if1 .taken)))
+
 read-requires-2 : tie.Need-read-requires-2
 read-requires-2 c κs =
-    let a = passed-area (c .before .before .before .before .before .before .before .before .before .before .args .card .now) (c .before .before .before .before .before .before .before .before .before .before .args .h) (c .before .before .before .before .before .before .before .before .before .before .pre .0) in
-    let b = directory-bounds (c .before .before .before .before .before .before .before .before .before .before .args .card .now) (c .before .before .before .before .before .before .before .before .before .before .args .h) (c .before .before .before .before .before .before .before .before .before .before .pre .0) (c .before .before .before .before .before .before .before .before .before .before .pre .1) (c .before .before .before .before .before .before .read .result) (c .before .before .before .before .before .before .read .ensures ∙ ap trailerOn (c .before .before .before .before .before .before .before .at .ensures .0 ∙ ap (blockAt (c .before .before .before .before .before .before .before .before .before .before .args .card .now)) (c .before .before .before .before .before .before .before .before .wide .ensures .0))) (c .before .before .before .wide2 .result) (c .before .before .wide3 .result) (c .before .wide4 .result) (c .wide5 .result) (c .before .before .before .wide2 .ensures .0) (c .before .before .wide3 .ensures .0) (c .before .wide4 .ensures .0) (c .wide5 .ensures .0) (said-yes (c .before .before .before .before .before .fits2 .ensures) (c .before .before .before .before .if1 .left)) in
-    (omega (arith, a, c .before .before .before .wide2 .ensures .0), (omega (arith, a, c .before .before .before .wide2 .ensures .0), (b .0, b .1)))
+    let at-start = c .before .before .before .before .before in
+    let area = passed-area (at-start .pre .0) in
+    (area .1, (area .0, directory-bounds (at-start .pre .0) (at-start .pre .1) (c .before .before .read .ensures ∙ ap trailerOn (c .before .before .before .at .ensures .0)) (said-yes (c .before .fits2 .ensures) (c .if1 .left))))
 
 fits-requires-2 : tie.Need-fits-requires-2
 fits-requires-2 c κs =
-    let a = passed-area (c .before .before .before .before .before .before .before .before .before .before .before .before .before .before .args .card .now) (c .before .before .before .before .before .before .before .before .before .before .before .before .before .before .args .h) (c .before .before .before .before .before .before .before .before .before .before .before .before .before .before .pre .0) in
-    let b = directory-bounds (c .before .before .before .before .before .before .before .before .before .before .before .before .before .before .args .card .now) (c .before .before .before .before .before .before .before .before .before .before .before .before .before .before .args .h) (c .before .before .before .before .before .before .before .before .before .before .before .before .before .before .pre .0) (c .before .before .before .before .before .before .before .before .before .before .before .before .before .before .pre .1) (c .before .before .before .before .before .before .before .before .before .before .read .result) (c .before .before .before .before .before .before .before .before .before .before .read .ensures ∙ ap trailerOn (c .before .before .before .before .before .before .before .before .before .before .before .at .ensures .0 ∙ ap (blockAt (c .before .before .before .before .before .before .before .before .before .before .before .before .before .before .args .card .now)) (c .before .before .before .before .before .before .before .before .before .before .before .before .wide .ensures .0))) (c .before .before .before .before .before .before .before .wide2 .result) (c .before .before .before .before .before .before .wide3 .result) (c .before .before .before .before .before .wide4 .result) (c .before .before .before .before .wide5 .result) (c .before .before .before .before .before .before .before .wide2 .ensures .0) (c .before .before .before .before .before .before .wide3 .ensures .0) (c .before .before .before .before .before .wide4 .ensures .0) (c .before .before .before .before .wide5 .ensures .0) (said-yes (c .before .before .before .before .before .before .before .before .before .fits2 .ensures) (c .before .before .before .before .before .before .before .before .if1 .left)) in
-    (omega (arith, a, c .before .before .before .before .before .before .before .wide2 .ensures .0), (b .0, omega (arith, b .1 .1, c .before .before .before .read2 .ensures .0)))
+    let at-start = c .before .before .before .before .before .before .before .before .before in
+    let at-read = c .before .before .before .before .before .before .read in
+    let at-at = c .before .before .before .before .before .before .before .at in
+    let bounds = directory-bounds (at-start .pre .0) (at-start .pre .1) (at-read .ensures ∙ ap trailerOn (at-at .ensures .0)) (said-yes (c .before .before .before .before .before .fits2 .ensures) (c .before .before .before .before .if1 .left)) in
+    (passed-area (at-start .pre .0) .0, (bounds .0, omega (arith, bounds .1 .1, c .before .before .before .read2 .ensures .0)))
+
+returns-2 : tie.Need-returns-2
+returns-2 c =
+    let at-start = c .before .before .before .before .before .before .before .before .before .before .before .before in
+    let at-read = c .before .before .before .before .before .before .before .before .before .read in
+    let at-at = c .before .before .before .before .before .before .before .before .before .before .at in
+    let at-read2 = c .before .before .before .before .before .before .read2 in
+    let at-fits2 = c .before .before .before .before .before .before .before .before .fits2 in
+    let at-if1 = c .before .before .before .before .before .before .before .if1 in
+    refusal-is 8 (omega arith) (c .refused2 .ensures) (last-asked (at-start .pre .0) (at-start .pre .1) (at-read .ensures ∙ ap trailerOn (at-at .ensures .0)) (at-read2 .result) (at-read2 .ensures .0) (at-read2 .ensures .1) false (said-yes (at-fits2 .ensures) (at-if1 .left)) (said-no (c .before .before .fits3 .ensures) (c .before .if2 .taken)))
 
 returns-3 : tie.Need-returns-3
 returns-3 c =
+    let at-start = c .before .before .before .before .before .before .before .before .before .before .before in
+    let at-read = c .before .before .before .before .before .before .before .before .read in
+    let at-at = c .before .before .before .before .before .before .before .before .before .at in
+    let at-read2 = c .before .before .before .before .before .read2 in
+    let at-fits2 = c .before .before .before .before .before .before .before .fits2 in
+    let at-if1 = c .before .before .before .before .before .before .if1 in
     record {
-      number = sym (last-asked (c .before .before .before .before .before .before .before .before .before .before .before .before .before .before .before .before .args .card .now) (c .before .before .before .before .before .before .before .before .before .before .before .before .before .before .before .before .args .h) (c .before .before .before .before .before .before .before .before .before .before .before .before .before .before .before .before .pre .0) (c .before .before .before .before .before .before .before .before .before .before .before .before .before .before .before .before .pre .1) (c .before .before .before .before .before .before .before .before .before .before .before .before .read .result) (c .before .before .before .before .before .before .before .before .before .before .before .before .read .ensures ∙ ap trailerOn (c .before .before .before .before .before .before .before .before .before .before .before .before .before .at .ensures .0 ∙ ap (blockAt (c .before .before .before .before .before .before .before .before .before .before .before .before .before .before .before .before .args .card .now)) (c .before .before .before .before .before .before .before .before .before .before .before .before .before .before .wide .ensures .0))) (c .before .before .before .before .before .before .before .before .before .wide2 .result) (c .before .before .before .before .before .before .before .before .wide3 .result) (c .before .before .before .before .before .before .before .wide4 .result) (c .before .before .before .before .before .before .wide5 .result) (c .before .before .before .before .before .before .before .before .before .wide2 .ensures .0) (c .before .before .before .before .before .before .before .before .wide3 .ensures .0) (c .before .before .before .before .before .before .before .wide4 .ensures .0) (c .before .before .before .before .before .before .wide5 .ensures .0) (c .before .before .before .before .before .read2 .result) (c .before .before .before .before .before .read2 .ensures .0) (c .before .before .before .before .before .read2 .ensures .1) true (said-yes (c .before .before .before .before .before .before .before .before .before .before .before .fits2 .ensures) (c .before .before .before .before .before .before .before .before .before .before .if1 .left)) (said-yes (c .before .fits3 .ensures) (c .if2 .left)));
-      header-is = λ z. c .before .before .before .before .before .before .before .before .before .before .before .before .before .before .before .before .pre .0 .header-is;
-      trailer-is = λ z. sym (committed-is (c .before .before .before .before .before .before .before .before .before .before .before .before .before .before .before .before .args .card .now) (c .before .before .before .before .before .before .before .before .before .before .before .before .before .before .before .before .args .h) (c .before .before .before .before .before .before .before .before .before .before .before .before .before .before .before .before .pre .0) (c .before .before .before .before .before .before .before .before .before .before .before .before .before .before .before .before .pre .1) (c .before .before .before .before .before .before .before .before .before .before .before .before .read .result) (c .before .before .before .before .before .before .before .before .before .before .before .before .read .ensures ∙ ap trailerOn (c .before .before .before .before .before .before .before .before .before .before .before .before .before .at .ensures .0 ∙ ap (blockAt (c .before .before .before .before .before .before .before .before .before .before .before .before .before .before .before .before .args .card .now)) (c .before .before .before .before .before .before .before .before .before .before .before .before .before .before .wide .ensures .0))));
-      entries-is = λ z. directory-is (c .before .before .before .before .before .before .before .before .before .before .before .before .before .before .before .before .args .card .now) (c .before .before .before .before .before .before .before .before .before .before .before .before .before .before .before .before .args .h) (c .before .before .before .before .before .before .before .before .before .before .before .before .before .before .before .before .pre .0) (c .before .before .before .before .before .before .before .before .before .before .before .before .before .before .before .before .pre .1) (c .before .before .before .before .before .before .before .before .before .before .before .before .read .result) (c .before .before .before .before .before .before .before .before .before .before .before .before .read .ensures ∙ ap trailerOn (c .before .before .before .before .before .before .before .before .before .before .before .before .before .at .ensures .0 ∙ ap (blockAt (c .before .before .before .before .before .before .before .before .before .before .before .before .before .before .before .before .args .card .now)) (c .before .before .before .before .before .before .before .before .before .before .before .before .before .before .wide .ensures .0))) (c .before .before .before .before .before .before .before .before .before .wide2 .result) (c .before .before .before .before .before .before .before .before .wide3 .result) (c .before .before .before .before .before .before .before .wide4 .result) (c .before .before .before .before .before .before .wide5 .result) (c .before .before .before .before .before .before .before .before .before .wide2 .ensures .0) (c .before .before .before .before .before .before .before .before .wide3 .ensures .0) (c .before .before .before .before .before .before .before .wide4 .ensures .0) (c .before .before .before .before .before .before .wide5 .ensures .0) (c .before .before .before .before .before .read2 .result) (c .before .before .before .before .before .read2 .ensures .0) (c .before .before .before .before .before .read2 .ensures .1);
+      number = sym (last-asked (at-start .pre .0) (at-start .pre .1) (at-read .ensures ∙ ap trailerOn (at-at .ensures .0)) (at-read2 .result) (at-read2 .ensures .0) (at-read2 .ensures .1) true (said-yes (at-fits2 .ensures) (at-if1 .left)) (said-yes (c .before .fits3 .ensures) (c .if2 .left)));
+      header-is = λ z. at-start .pre .0 .header-is;
+      trailer-is = λ z. sym (committed-is (at-start .pre .0) (at-start .pre .1) (at-read .ensures ∙ ap trailerOn (at-at .ensures .0)));
+      entries-is = λ z. directory-is (at-start .pre .0) (at-start .pre .1) (at-read .ensures ∙ ap trailerOn (at-at .ensures .0)) (at-read2 .result) (at-read2 .ensures .0) (at-read2 .ensures .1);
     }
 
 pub committed-spec : {M : Type 1} → statement M
 committed-spec =
     tie.close
     (tie.spec
+    (λ c κs. omega (arith, passed-trailer (c .before .pre .0) (c .before .pre .1)))
     (λ c κs. search needs)
-    (λ c κs. omega (arith, passed-trailer (c .before .before .args .card .now) (c .before .before .args .h) (c .before .before .pre .0) (c .before .before .pre .1), c .wide .ensures .0))
+    (λ c κs. passed-area (c .before .before .before .pre .0) .0)
     (λ c κs. search needs)
-    (λ c κs. passed-area (c .before .before .before .before .args .card .now) (c .before .before .before .before .args .h) (c .before .before .before .before .pre .0) .0)
-    (λ c κs. search needs)
-    (λ c. refusal-is _ _ 7 (omega arith) (c .refused .ensures) (refuse-7 (c .before .before .before .before .before .before .before .args .card .now) (c .before .before .before .before .before .before .before .args .h) (c .before .before .before .before .before .before .before .pre .0) (c .before .before .before .before .before .before .before .pre .1) (c .before .before .before .read .result) (c .before .before .before .read .ensures ∙ ap trailerOn (c .before .before .before .before .at .ensures .0 ∙ ap (blockAt (c .before .before .before .before .before .before .before .args .card .now)) (c .before .before .before .before .before .wide .ensures .0))) (said-no (c .before .before .fits2 .ensures) (c .before .if1 .taken))))
-    (λ c κs. search needs)
-    (λ c κs. search needs)
-    (λ c κs. search needs)
-    (λ c κs. search needs)
+    returns
     read-requires-2
     fits-requires-2
     (λ c κs. search needs)
-    (λ c. refusal-is _ _ 8 (omega arith) (c .refused2 .ensures) (last-asked (c .before .before .before .before .before .before .before .before .before .before .before .before .before .before .before .before .before .args .card .now) (c .before .before .before .before .before .before .before .before .before .before .before .before .before .before .before .before .before .args .h) (c .before .before .before .before .before .before .before .before .before .before .before .before .before .before .before .before .before .pre .0) (c .before .before .before .before .before .before .before .before .before .before .before .before .before .before .before .before .before .pre .1) (c .before .before .before .before .before .before .before .before .before .before .before .before .before .read .result) (c .before .before .before .before .before .before .before .before .before .before .before .before .before .read .ensures ∙ ap trailerOn (c .before .before .before .before .before .before .before .before .before .before .before .before .before .before .at .ensures .0 ∙ ap (blockAt (c .before .before .before .before .before .before .before .before .before .before .before .before .before .before .before .before .before .args .card .now)) (c .before .before .before .before .before .before .before .before .before .before .before .before .before .before .before .wide .ensures .0))) (c .before .before .before .before .before .before .before .before .before .before .wide2 .result) (c .before .before .before .before .before .before .before .before .before .wide3 .result) (c .before .before .before .before .before .before .before .before .wide4 .result) (c .before .before .before .before .before .before .before .wide5 .result) (c .before .before .before .before .before .before .before .before .before .before .wide2 .ensures .0) (c .before .before .before .before .before .before .before .before .before .wide3 .ensures .0) (c .before .before .before .before .before .before .before .before .wide4 .ensures .0) (c .before .before .before .before .before .before .before .wide5 .ensures .0) (c .before .before .before .before .before .before .read2 .result) (c .before .before .before .before .before .before .read2 .ensures .0) (c .before .before .before .before .before .before .read2 .ensures .1) false (said-yes (c .before .before .before .before .before .before .before .before .before .before .before .before .fits2 .ensures) (c .before .before .before .before .before .before .before .before .before .before .before .if1 .left)) (said-no (c .before .before .fits3 .ensures) (c .before .if2 .taken))))
+    returns-2
     returns-3)

@@ -24,17 +24,20 @@ loop-holds c = (omega arith, (c .before .empty .ensures ∙ sym (patch-none zero
 
 loop-again : tie.Need-loop-again Inv-loop μ-loop
 loop-again c =
-    let a = c .before .before .before .before .before .before .before .before .before .before .args in
-    let l = c .before .before .before .before .before .before .before .loop in
+    let at-start = c .before .before .before .before .before .before .before .before .before .before in
+    let at-loop = c .before .before .before .before .before .before .before .loop in
+    let a = at-start .args in
+    let l = at-loop in
     let p = c .before .put-words in
     (omega arith, (p .ensures ∙ ap (λ (s : List ℕ). patch s (8 * l .k) (words (getD (a .frames .now) (64 * a .j + l .k) 0 ∷ getD (a .blocks .now) (64 * a .j + l .k) 0 ∷ []))) (l .inv .1 .0) ∙ front-more (a .frames .now) (a .blocks .now) (64 * a .j) (l .k) _ _ (omega arith) refl refl, omega (arith, p .kept .0)))
 
 returns : tie.Need-returns Inv-loop μ-loop
 returns c =
-    let a = c .before .before .before .before .args in
+    let at-start = c .before .before .before .before in
+    let a = at-start .args in
     let l = c .before .loop in
     let e : l .k ≡ min 64 (a .count - 64 * a .j) = omega arith in
-    rw e at (l .inv .1 .0) ∙ front-all (a .frames .now) (a .blocks .now) (a .count) (a .j) (c .before .before .before .before .pre .1)
+    rw e at (l .inv .1 .0) ∙ front-all (a .frames .now) (a .blocks .now) (a .count) (a .j) (at-start .pre .1)
 
 pub block-spec : {M : Type 1} → statement M
 block-spec =

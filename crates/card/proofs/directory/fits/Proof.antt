@@ -26,15 +26,19 @@ loop-holds c = (omega arith, ap (entriesFit (c .args .card) (c .args .area) (c .
 
 returns : tie.Need-returns Inv-loop μ-loop
 returns c =
-    let a = c .before .before .before .before .before .before .before .before .args in
-    let l = c .before .before .before .before .before .before .before .loop in
+    let at-start = c .before .before .before .before .before .before .before .before in
+    let at-loop = c .before .before .before .before .before .before .before .loop in
+    let a = at-start .args in
+    let l = at-loop in
     sym (fit-stops (a .card) (a .area) (a .first) (a .p) (l .low) _ _ _ (entry-next (a .frames .now) (a .blocks .now) (l .i) (a .count) _ _ (omega arith) (c .before .before .before .before .wide .ensures .0) (c .before .before .wide2 .ensures .0)) (said-no (c .before .entry-fits .ensures) (c .if1 .taken)))
     ∙ l .inv .1
 
 loop-again : tie.Need-loop-again Inv-loop μ-loop
 loop-again c =
-    let a = c .before .before .before .before .before .before .before .before .args in
-    let l = c .before .before .before .before .before .before .before .loop in (
+    let at-start = c .before .before .before .before .before .before .before .before in
+    let at-loop = c .before .before .before .before .before .before .before .loop in
+    let a = at-start .args in
+    let l = at-loop in (
       omega arith,
       sym (fit-more (a .card) (a .area) (a .first) (a .p) (l .low) _ _ _ (entry-next (a .frames .now) (a .blocks .now) (l .i) (a .count) _ _ (omega arith) (c .before .before .before .before .wide .ensures .0) (c .before .before .wide2 .ensures .0)) (said-yes (c .before .entry-fits .ensures) (c .if1 .left)))
           ∙ l .inv .1,

@@ -23,8 +23,10 @@ loop-holds c = (omega arith, (omega arith, sym (patch-none _ _)))
 
 loop-again : tie.Need-loop-again Inv-loop μ-loop
 loop-again c =
-    let a = c .before .before .before .before .before .before .before .before .before .args in
-    let l = c .before .before .before .before .before .before .loop in
+    let at-start = c .before .before .before .before .before .before .before .before .before in
+    let at-loop = c .before .before .before .before .before .before .loop in
+    let a = at-start .args in
+    let l = at-loop in
     let p = c .before .before .put-u32 in (
       omega arith,
       (omega (arith, p .kept .0), p .ensures ∙ ap (λ (s : List ℕ). putU32 s (a .at + 4 * l .k) (getD (a .numbers .now) (l .k) 0)) (l .inv .1 .1) ∙ words-more (a .s .now) (a .at) (l .k) (a .numbers .now) (omega arith) (omega arith)),

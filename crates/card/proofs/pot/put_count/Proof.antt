@@ -9,6 +9,12 @@ use Rattle.card.specs.Pot.{putCount}
 use Rattle.card.proofs.pot.put_count.Statement.{statement}
 use Rattle.card.proofs.pot.put_count.Tie as tie
 
+returns : tie.Need-returns
+unfolding putCount
+returns c =
+    let at-start = c .before .before .before .before .before .before in
+    c .before .before .put-u32 .ensures ∙ ap (λ (k : ℕ). putU32 (at-start .args .pot .now) k (at-start .args .n)) (c .before .before .before .entry-at .ensures)
+
 pub put-count-spec : {M : Type 1} → statement M
 unfolding putCount
 put-count-spec =
@@ -17,4 +23,4 @@ put-count-spec =
     (λ c κs. search needs)
     (λ c κs. search needs)
     (λ c. search needs)
-    (λ c. c .before .before .put-u32 .ensures ∙ ap (λ (k : ℕ). putU32 (c .before .before .before .before .before .before .args .pot .now) k (c .before .before .before .before .before .before .args .n)) (c .before .before .before .entry-at .ensures)))
+    returns)

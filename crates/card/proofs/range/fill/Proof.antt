@@ -24,15 +24,19 @@ loop-holds c = (omega arith, (omega arith, ap (rangesFill 0 (c .args .start) (c 
 
 returns : tie.Need-returns Inv-loop μ-loop
 returns c =
-    let a = c .before .before .before .before .before .before .before .before .args in
-    let l = c .before .before .before .before .before .before .before .loop in
+    let at-start = c .before .before .before .before .before .before .before .before in
+    let at-loop = c .before .before .before .before .before .before .before .loop in
+    let a = at-start .args in
+    let l = at-loop in
     sym (fill-stops (l .low) (l .at) (a .card) _ _ _ (range-next (a .numbers .now) (l .i) (a .count) _ _ (omega arith) (c .before .before .before .before .wide .ensures .0) (c .before .before .wide2 .ensures .0)) (said-no (c .before .keeps .ensures) (c .if1 .taken)))
     ∙ l .inv .1 .1
 
 loop-again : tie.Need-loop-again Inv-loop μ-loop
 loop-again c =
-    let a = c .before .before .before .before .before .before .before .before .before .args in
-    let l = c .before .before .before .before .before .before .before .before .loop in (
+    let at-start = c .before .before .before .before .before .before .before .before .before in
+    let at-loop = c .before .before .before .before .before .before .before .before .loop in
+    let a = at-start .args in
+    let l = at-loop in (
       omega arith,
       (
         omega (arith, c .blocks2 .ensures),

@@ -23,25 +23,37 @@ loop-holds : tie.Need-loop-holds Inv-loop μ-loop
 unfolding rangesOf
 loop-holds c = (omega arith, (omega arith, ap (λ (l : List Range). locate l (1 + c .before .args .area) (c .before .args .oid)) (tab-start (rangeIn (c .before .args .numbers .now)) (c .before .args .count))))
 
+sub-address-in : tie.Need-sub-address-in Inv-loop μ-loop
+sub-address-in c =
+    let at-wide = c .before .before .before .before .before .before .before .before .wide in
+    omega (arith, holds-low (c .before .before .before .before .wide2 .result) (c .before .before .wide3 .result) (at-wide .result) (sym (c .before .holds .ensures) ∙ c .if1 .taken))
+
 returns : tie.Need-returns Inv-loop μ-loop
 returns c =
-    let a = c .before .before .before .before .before .before .before .before .before .before .args in
-    let l = c .before .before .before .before .before .before .before .before .loop in
-    ap Located (c .address-in .ensures ∙ ap (λ (n : ℕ). addressIn (l .start) (n - c .before .before .before .before .before .wide2 .result)) (c .before .before .before .before .before .before .before .before .before .wide .ensures .0))
-    ∙ sym (locate-here (l .start) (a .oid) _ _ _ (range-next (a .numbers .now) (l .i) (a .count) _ _ (omega arith) (c .before .before .before .before .before .wide2 .ensures .0) (c .before .before .before .wide3 .ensures .0))
-    (rw (c .before .before .before .before .before .before .before .before .before .wide .ensures .0) at (sym (c .before .before .holds .ensures) ∙ c .before .if1 .taken)))
+    let at-start = c .before .before .before .before .before .before .before .before .before .before in
+    let at-loop = c .before .before .before .before .before .before .before .before .loop in
+    let at-wide2 = c .before .before .before .before .before .wide2 in
+    let at-wide = c .before .before .before .before .before .before .before .before .before .wide in
+    let a = at-start .args in
+    let l = at-loop in
+    ap Located (c .address-in .ensures ∙ ap (λ (n : ℕ). addressIn (l .start) (n - at-wide2 .result)) (at-wide .ensures .0))
+    ∙ sym (locate-here (l .start) (a .oid) _ _ _ (range-next (a .numbers .now) (l .i) (a .count) _ _ (omega arith) (at-wide2 .ensures .0) (c .before .before .before .wide3 .ensures .0))
+    (rw (at-wide .ensures .0) at (sym (c .before .before .holds .ensures) ∙ c .before .if1 .taken)))
     ∙ l .inv .1 .1
 
 loop-again : tie.Need-loop-again Inv-loop μ-loop
 loop-again c =
-    let a = c .before .before .before .before .before .before .before .before .before .before .args in
-    let l = c .before .before .before .before .before .before .before .before .loop in (
+    let at-start = c .before .before .before .before .before .before .before .before .before .before in
+    let at-loop = c .before .before .before .before .before .before .before .before .loop in
+    let at-wide = c .before .before .before .before .before .before .before .before .before .wide in
+    let a = at-start .args in
+    let l = at-loop in (
       omega arith,
       (
         omega (arith, c .blocks2 .ensures),
         rw (c .blocks2 .ensures)
             (sym (locate-later (l .start) (a .oid) _ _ _ (range-next (a .numbers .now) (l .i) (a .count) _ _ (omega arith) (c .before .before .before .before .before .wide2 .ensures .0) (c .before .before .before .wide3 .ensures .0))
-            (rw (c .before .before .before .before .before .before .before .before .before .wide .ensures .0) at (sym (c .before .before .holds .ensures) ∙ c .before .if1 .left))))
+            (rw (at-wide .ensures .0) at (sym (c .before .before .holds .ensures) ∙ c .before .if1 .left))))
             ∙ l .inv .1 .1,
       ),
     )
@@ -71,7 +83,7 @@ find-spec =
     (λ c. omega arith)
     (λ c κs. omega arith)
     (λ c κs. omega arith)
-    (λ c. omega (arith, holds-low (c .before .before .before .before .wide2 .result) (c .before .before .wide3 .result) (c .before .before .before .before .before .before .before .before .wide .result) (sym (c .before .holds .ensures) ∙ c .if1 .taken)))
+    sub-address-in
     (λ c κs. omega arith)
     returns
     (λ c κs. omega arith)

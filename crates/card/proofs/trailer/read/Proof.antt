@@ -5,6 +5,12 @@ use Rattle.card.specs.Trailer.{trailerOn}
 use Rattle.card.proofs.trailer.read.Statement.{statement}
 use Rattle.card.proofs.trailer.read.Tie as tie
 
+returns : tie.Need-returns
+unfolding trailerOn
+returns c =
+    let at-get-u32 = c .before .before .before .before .before .before .get-u32 in
+    rw (c .before .before .before .before .wide .ensures .0, c .before .before .wide2 .ensures .0, c .wide3 .ensures .0, at-get-u32 .ensures, c .before .before .before .before .before .get-u322 .ensures, c .before .before .before .get-u323 .ensures, c .before .get-u324 .ensures)
+
 pub read-spec : {M : Type 1} → statement M
 unfolding trailerOn
 read-spec =
@@ -14,4 +20,7 @@ read-spec =
     (λ c κs. search needs)
     (λ c κs. search needs)
     (λ c κs. search needs)
-    (λ c. rw (c .before .before .before .get-u32 .ensures, c .before .before .get-u322 .ensures, c .before .get-u323 .ensures, c .get-u324 .ensures)))
+    (λ c κs. search needs)
+    (λ c κs. search needs)
+    (λ c κs. search needs)
+    returns)
