@@ -1,7 +1,7 @@
 -- The trailer: its length, how it is put, and that it is read back.
 -- Assumes nothing.
 use Prim.Native.Nat.{ℕ, _+_, _*_, _<_}
-use lib.ListN.{length, getD, replicate, length-append, length-replicate}
+use lib.ListN.{length, getD, replicate, length-replicate}
 use mathlib.Core.List.{List, [], _∷_, _++_, append-nil}
 use mathlib.Core.Path.{_≡_, ap, sym, _∙_}
 use native.Mathlib.Omega.{arith}
@@ -15,7 +15,7 @@ numbers t = t .commit ∷ t .first ∷ t .pages ∷ t .entries ∷ []
 
 pub trailer-length : (t : Trailer) → length (trailerBlock t) ≡ 512
 unfolding trailerBlock
-trailer-length t = simp (length-append, words-length, length-replicate)
+trailer-length t = simp (words-length)
 
 pub trailer-put : (t : Trailer) → patch zeros 496 (words (t .commit ∷ t .first ∷ t .pages ∷ t .entries ∷ [])) ≡ trailerBlock t
 unfolding trailerBlock numbers
