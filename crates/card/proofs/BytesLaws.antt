@@ -63,10 +63,6 @@ pub part-length : (s : List ℕ) (at n : ℕ) → at + n ≤ length s → length
 unfolding part
 part-length s at n h = simp (length-take, length-drop) (omega arith)
 
-pub getD-part : (s : List ℕ) (at n i : ℕ) → i < n → getD (part s at n) i 0 ≡ getD s (at + i) 0
-unfolding part
-getD-part s at n i h = getD-take n (drop at s) i 0 h ∙ getD-drop at s i 0
-
 module _ (s : List ℕ) (at : ℕ) (v : List ℕ) (fits : at + length v ≤ length s) where
   front-length : length (take at s) ≡ at
   front-length = length-take-le at s (omega arith)

@@ -5,7 +5,6 @@ pub mod BlockLaws
 pub mod RingLaws
 pub mod RangeLaws
 pub mod AddressLaws
-pub mod LaneTable
 pub mod Table
 pub mod PotLaws
 pub mod HeaderLaws
@@ -13,3 +12,4 @@ pub mod TrailerLaws
 pub mod DirectoryLaws
 pub mod QuestionLaws
 pub mod CheckpointLaws
+pub mod LaneTable

@@ -12,6 +12,6 @@ blockAt c n = part c (512 * n) 512
 unfoldable pub putBlock : List ℕ → ℕ → List ℕ → List ℕ
 putBlock c n b = patch c (512 * n) b
 
--- a length of whole blocks, low to high of them (questions 1 and 3)
+-- so many bytes are whole blocks, low to high of them (questions 1 and 3)
 unfoldable pub whole : ℕ → ℕ → ℕ → Bool
-whole low high length = eqb (length % 512) 0 && (leb low (length / 512) && leb (length / 512) high)
+whole low high bytes = eqb (bytes % 512) 0 && (leb low (bytes / 512) && leb (bytes / 512) high)
