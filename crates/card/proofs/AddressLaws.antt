@@ -9,10 +9,9 @@ use mathlib.Core.Logic.{_≢_, ⊎-elim}
 use mathlib.Core.Path.{_≡_, refl, ap, sym}
 use native.Mathlib.Nat.{eq-or-lt-of-le}
 use native.Mathlib.Omega.{arith}
-use Rattle.card.proofs.BytesLaws.{All}
 use Rattle.card.proofs.RangeLaws.{geometry-tells}
 use Rattle.card.proofs.Test.{both}
-use Rattle.card.specs.Bytes.{tabulate}
+use Rattle.card.specs.Bytes.{tabulate, All}
 use Rattle.card.specs.Range.{Range, potCount, rangeBlocks, geometryFits, addressIn, locate, allBlocks, allPots}
 use Rattle.card.specs.declared.range.Address.{Address}
 use Rattle.card.specs.declared.range.Lookup.the-variants.{Located}

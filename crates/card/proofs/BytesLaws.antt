@@ -1,9 +1,5 @@
 -- Laws of parts, patches, tabulated lists and stored numbers.
 -- Assumes nothing.
-
--- ---- what code leaves of a slice, as a part or a patch
-
--- four stores, one after the other
 use Prim.Native.Nat.{ℕ, zero, suc, _+_, _-_, _*_, _≤_, _<_}
 use borrow.Rule.Slice.PartMut.{putMid, post-is}
 use lib.ListN.{length, take, drop, set, getD, replicate, length-append, length-take, length-drop, length-replicate, take-append-drop, drop-of-length-le, List·getD-append}
@@ -16,7 +12,11 @@ use native.Mathlib.Nat.{add-zero, zero-add, add-assoc}
 use native.Mathlib.Numerals.{add-one}
 use native.Mathlib.Omega.{arith}
 use Rattle.card.proofs.Test.{le-or-lt}
-use Rattle.card.specs.Bytes.{part, patch, tabulate, pairs, u32Bytes, getU32, putU32, words, pad, zeros}
+use Rattle.card.specs.Bytes.{part, patch, tabulate, All, pairs, u32Bytes, getU32, putU32, words, pad, zeros}
+
+-- ---- what code leaves of a slice, as a part or a patch
+
+-- four stores, one after the other
 
 pub stores4 : (s : List ℕ) (at a b c d : ℕ) → at + 4 ≤ length s
     → set (set (set (set s at a) (at + 1) b) (at + 2) c) (at + 3) d ≡ patch s at (a ∷ b ∷ c ∷ d ∷ [])
@@ -283,11 +283,6 @@ getU32-putU32 s at n h k =
 -- a number in 32 bits
 abbrev pub U32 : ℕ → Type 0
 U32 n = n < 4294967296
-
--- every member
-abbrev pub All : {A : Type 0} → (A → Type 0) → List A → Type 0
-All P [] = Unit {0}
-All P (x ∷ xs) = P x × All P xs
 
 pub words-length : (ns : List ℕ) → length (words ns) ≡ 4 * length ns
 unfolding words

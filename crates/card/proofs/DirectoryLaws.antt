@@ -9,10 +9,10 @@ use mathlib.Core.Path.{_≡_, ap, sym, _∙_}
 use native.Mathlib.Nat.{zero-add}
 use native.Mathlib.Numerals.{add-one}
 use native.Mathlib.Omega.{arith}
-use Rattle.card.proofs.BytesLaws.{patch-on, tab-length, tab-more, tab-snoc, tab-drop, tab-take, tab-same, tab-list, Filled, U32, All, words-length, words-append, read-words, pairs-length, pairs-append, pairs-fit, pairs-first, pairs-second, pad-length, zeros-length, zeros-patch}
+use Rattle.card.proofs.BytesLaws.{patch-on, tab-length, tab-more, tab-snoc, tab-drop, tab-take, tab-same, tab-list, Filled, U32, words-length, words-append, read-words, pairs-length, pairs-append, pairs-fit, pairs-first, pairs-second, pad-length, zeros-length, zeros-patch}
 use Rattle.card.proofs.Test.{le-or-lt}
 use Rattle.card.specs.Block.{blockAt}
-use Rattle.card.specs.Bytes.{part, patch, tabulate, pairs, getU32, words, pad, zeros}
+use Rattle.card.specs.Bytes.{part, patch, tabulate, All, pairs, getU32, words, pad, zeros}
 use Rattle.card.specs.Directory.{entryIn, entriesOf, entryNumbers, dirBlock, readEntry, entryOn, readDir}
 use Rattle.card.specs.Ring.{ringAt, dirBlocks}
 use Rattle.card.specs.declared.directory.Entry.{Entry}

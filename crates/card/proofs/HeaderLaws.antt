@@ -8,8 +8,8 @@ use mathlib.Core.Option.{none}
 use mathlib.Core.Path.{_≡_, refl, ap, sym, _∙_}
 use native.Mathlib.Nat.{zero-add}
 use native.Mathlib.Omega.{arith}
-use Rattle.card.proofs.BytesLaws.{patch-on, tab-length, tab-getD, tab-same, tab-list, U32, All, words-length, words-append, read-words, pairs-length, pairs-fit, pairs-first, pairs-second, pad-length, zeros-length, zeros-patch}
-use Rattle.card.specs.Bytes.{patch, tabulate, pairs, getU32, words, readWords, pad, zeros}
+use Rattle.card.proofs.BytesLaws.{patch-on, tab-length, tab-getD, tab-same, tab-list, U32, words-length, words-append, read-words, pairs-length, pairs-fit, pairs-first, pairs-second, pad-length, zeros-length, zeros-patch}
+use Rattle.card.specs.Bytes.{patch, tabulate, All, pairs, getU32, words, readWords, pad, zeros}
 use Rattle.card.specs.Header.{rangeNumbers, headerBlock, headerOn}
 use Rattle.card.specs.Question.{headerRanges}
 use Rattle.card.specs.Range.{Range, rangeIn, rangesOf}

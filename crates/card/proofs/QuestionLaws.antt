@@ -1,7 +1,5 @@
 -- Laws of the first "no", and of question 8 asked entry by entry.
 -- Assumes nothing.
-
--- ---- the first "no"
 use Prim.Native.Nat.{ℕ, suc, _+_, _-_, _≤_, _<_}
 use borrow.Author.Tests.{leb-true, eqb-true, ne-eqb}
 use lib.Dec.{leb, ltb, eqb}
@@ -10,15 +8,17 @@ use mathlib.Core.List.{List, [], _∷_, _++_}
 use mathlib.Core.Logic.{_≢_}
 use mathlib.Core.Path.{_≡_, refl, ap, sym, _∙_}
 use native.Mathlib.Omega.{arith}
-use Rattle.card.proofs.BytesLaws.{All}
 use Rattle.card.proofs.RingLaws.{size-some}
 use Rattle.card.proofs.Test.{both}
+use Rattle.card.specs.Bytes.{All}
 use Rattle.card.specs.Question.{Question, ask, firstNo, headerRanges, commitFits, headerAsks, endsAt, trailerFits, entriesFit}
 use Rattle.card.specs.Range.{geometryFits}
 use Rattle.card.specs.Ring.{ringAt, ringOffset, half, dirBlocks, generationSize}
 use Rattle.card.specs.declared.directory.Entry.{Entry}
 use Rattle.card.specs.declared.header.Header.{Header}
 use Rattle.card.specs.declared.trailer.Trailer.{Trailer}
+
+-- ---- the first "no"
 
 pub none-asked : firstNo [] ≡ 0
 unfolding firstNo

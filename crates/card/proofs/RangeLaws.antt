@@ -1,7 +1,5 @@
 -- Laws of ranges: loops over them, what question 5 tells, and that places are apart.
 -- Assumes nothing.
-
--- ---- one range of question 5 after the other
 use Prim.Native.Nat.{ℕ, _+_, _-_, _*_, _≤_, _<_}
 use borrow.Author.Tests.{leb-true, eqb-true}
 use lib.Dec.{leb, ltb, eqb}
@@ -10,12 +8,14 @@ use mathlib.Core.Bool.{Bool, true, false, _&&_}
 use mathlib.Core.List.{List, [], _∷_}
 use mathlib.Core.Path.{_≡_, refl, _∙_}
 use native.Mathlib.Omega.{arith}
-use Rattle.card.proofs.BytesLaws.{tab-more, All}
+use Rattle.card.proofs.BytesLaws.{tab-more}
 use Rattle.card.proofs.HeaderLaws.{FitsRange}
 use Rattle.card.proofs.Test.{both}
-use Rattle.card.specs.Bytes.{tabulate}
+use Rattle.card.specs.Bytes.{tabulate, All}
 use Rattle.card.specs.Range.{Range, rangeIn, rangeBlocks, rangesFill, geometryFits, addressIn, locate, allBlocks}
 use Rattle.card.specs.declared.range.Lookup.the-variants.{Located, Outside}
+
+-- ---- one range of question 5 after the other
 
 -- one turn of a loop over ranges
 pub range-next : (ns : List ℕ) (i n oid pages : ℕ) → i < n → oid ≡ getD ns (2 * i) 0 → pages ≡ getD ns (2 * i + 1) 0

@@ -19,6 +19,11 @@ unfoldable pub tabulate : {A : Type 0} → (ℕ → A) → ℕ → ℕ → List 
 tabulate f i zero = []
 tabulate f i (suc n) = f i ∷ tabulate f (suc i) n
 
+-- every member
+abbrev pub All : {A : Type 0} → (A → Type 0) → List A → Type 0
+All P [] = Unit {0}
+All P (x ∷ xs) = P x × All P xs
+
 -- two numbers of each member, one after the other
 unfoldable pub pairs : {A : Type 0} → (A → ℕ) → (A → ℕ) → List A → List ℕ
 pairs f g [] = []

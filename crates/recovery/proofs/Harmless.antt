@@ -1,0 +1,108 @@
+-- A write outside the committed generation, or to the home of a frame that it names, leaves what a started card shows, whatever bytes it leaves.
+-- Assumes nothing.
+use Prim.Native.Nat.{ℕ, _+_, _*_, _≤_, _<_}
+use lib.ListN.{length}
+use mathlib.Core.List.{List, [], _∷_}
+use mathlib.Core.Logic.{_≢_}
+use mathlib.Core.Path.{_≡_, ap, _∙_}
+use native.Mathlib.Decide.{ℕ-discrete}
+use native.Mathlib.Omega.{arith}
+use Rattle.card.proofs.BlockLaws.{put-length, put-other}
+use Rattle.card.proofs.DirectoryLaws.{readDir-same}
+use Rattle.card.proofs.RingLaws.{on-in, from-on}
+use Rattle.card.specs.Block.{blockAt, putBlock}
+use Rattle.card.specs.Bytes.{All}
+use Rattle.card.specs.Range.{Range}
+use Rattle.card.specs.Ring.{ringAt, ringOffset, dirBlocks}
+use Rattle.card.specs.declared.directory.Entry.{Entry}
+use Rattle.recovery.proofs.ContentsLaws.{overlay-base, overlay-hides, all-map, storedFrames-same}
+use Rattle.recovery.proofs.Invariant.{Tail, Recoverable}
+use Rattle.recovery.proofs.SizeLaws.{quiet-size, pagesDown-below}
+use Rattle.recovery.proofs.Sorted.{Without, SortedGeneration, sizeOf, trailerAt}
+use Rattle.recovery.specs.Contents.{Contents, overlay, storedFrames}
+use Rattle.recovery.specs.Sound.{Between}
+
+-- where a write does no harm to the committed generation g
+pub data Harmless (blocks area : ℕ) (g : SortedGeneration) (n : ℕ) : Type 0 where
+  free : 1 ≤ n → n ≤ area → sizeOf g ≤ ringOffset area (g .first) n → Harmless blocks area g n
+  moving : area < n → n < blocks → (All (λ e. n ≢ e .frame) (g .dir) → ⊥) → Harmless blocks area g n
+
+pub harmless-low : (blocks area : ℕ) (g : SortedGeneration) (n : ℕ) → area < blocks → Harmless blocks area g n → (1 ≤ n) × (n < blocks)
+harmless-low blocks area g n h (free l k q) = omega arith
+harmless-low blocks area g n h (moving l k q) = omega arith
+
+-- a block of the committed stretch is no such place
+pub harmless-apart : (blocks area : ℕ) (g : SortedGeneration) (n : ℕ) → 1 ≤ g .first → g .first ≤ area → sizeOf g ≤ area → Harmless blocks area g n
+    → (i : ℕ) → i < sizeOf g → ringAt area (g .first) i ≢ n
+harmless-apart blocks area g n low high fits (free l k q) i h e =
+    omega (arith, from-on area (g .first) low high i (omega arith), ap (ringOffset area (g .first)) e)
+harmless-apart blocks area g n low high fits (moving l k q) i h e = omega (arith, on-in area (g .first) low high i (omega arith))
+
+harmless-entry : (blocks area : ℕ) (g : SortedGeneration) (n : ℕ) → g .pagesDown ≤ sizeOf g → Harmless blocks area g n → (e : Entry) → Between area (g .first) 0 (g .pagesDown) e → e .block ≢ n
+harmless-entry blocks area g n h (free l k q) e t p = omega (arith, ap (ringOffset area (g .first)) p)
+harmless-entry blocks area g n h (moving l k q) e t p = omega arith
+
+without-storedFrames : (c : List ℕ) (f : ℕ) (es : List Entry) → Without f (storedFrames c es) → All (λ e. f ≢ e .frame) es
+unfolding storedFrames
+without-storedFrames c f [] h = tt
+without-storedFrames c f (e ∷ es) h = (h .0, without-storedFrames c f es (h .1))
+
+module _ (blocks area : ℕ) (ranges : List Range) (commit : ℕ) (g : SortedGeneration) (c : List ℕ) (kept : Contents) (k : Recoverable blocks area ranges commit g c kept)
+    (n : ℕ) (harmless : Harmless blocks area g n) (x : List ℕ) (long : length x ≡ 512) where
+  fit : 512 * n + 512 ≤ length c
+  fit = omega (arith, harmless-low blocks area g n (k .home) harmless)
+
+  other : (m : ℕ) → m ≢ n → blockAt (putBlock c n x) m ≡ blockAt c m
+  other m h = put-other c n x long fit m h
+
+  head-same : blockAt (putBlock c n x) 0 ≡ blockAt c 0
+  head-same = other 0 (omega (arith, harmless-low blocks area g n (k .home) harmless))
+
+  pub committed-same : storedFrames (putBlock c n x) (g .dir) ≡ storedFrames c (g .dir)
+  committed-same = storedFrames-same c (putBlock c n x) (g .dir)
+      (all-map (Between area (g .first) 0 (g .pagesDown)) (λ e. blockAt (putBlock c n x) (e .block) ≡ blockAt c (e .block)) (g .dir)
+      (λ e h. other (e .block) (harmless-entry blocks area g n (pagesDown-below g (k .any)) harmless e h)) (k .inside))
+
+  tail-same : Tail c area commit g → Tail (putBlock c n x) area commit g
+  unfolding trailerAt
+  tail-same t =
+      let long-size : sizeOf g ≡ g .pagesDown + dirBlocks (length (g .dir)) + 1 = quiet-size g (k .quiet) (t .some-named) in
+      let block : (i : ℕ) → i < sizeOf g → blockAt (putBlock c n x) (ringAt area (g .first) i) ≡ blockAt c (ringAt area (g .first) i) =
+      λ i h. other (ringAt area (g .first) i) (harmless-apart blocks area g n (k .low) (k .high) (k .fits) harmless i h) in
+      let last : blockAt (putBlock c n x) (trailerAt area g) ≡ blockAt c (trailerAt area g) = block (g .pagesDown + dirBlocks (length (g .dir))) (omega arith) in
+      record {
+        some-named = t .some-named;
+        place-is = rw head-same (t .place-is);
+        trailer-is = rw last (t .trailer-is);
+        dir-is = readDir-same c (putBlock c n x) area (g .first) (g .pagesDown) (length (g .dir)) (λ j h. block (g .pagesDown + j) (omega arith)) ∙ t .dir-is;
+      }
+
+  same-view : (f : ℕ) → area < f → f < blocks → Dec (f ≡ n) → Harmless blocks area g n → overlay (storedFrames c (g .dir)) (blockAt (putBlock c n x)) f ≡ overlay (storedFrames c (g .dir)) (blockAt c) f
+  same-view f l h (no d) s = overlay-base (storedFrames c (g .dir)) (blockAt (putBlock c n x)) (blockAt c) f (other f d)
+  same-view f l h (yes d) (free p q r) = absurd (omega arith)
+  same-view f l h (yes d) (moving p q r) =
+      overlay-hides (storedFrames c (g .dir)) (blockAt (putBlock c n x)) (blockAt c) f (λ w. r (rw d at (without-storedFrames c f (g .dir) w)))
+
+  pub harmless-write : Recoverable blocks area ranges commit g (putBlock c n x) kept
+  harmless-write = record {
+    whole = put-length c n x long fit ∙ k .whole;
+    home = k .home;
+    many = k .many;
+    small = k .small;
+    geo = k .geo;
+    low = k .low;
+    high = k .high;
+    fits = k .fits;
+    quiet = k .quiet;
+    inside = k .inside;
+    named = k .named;
+    rising = k .rising;
+    head = record { layout-is = rw head-same (k .head .layout-is); commit-is = rw head-same (k .head .commit-is); area-is = rw head-same (k .head .area-is); ranges-is = rw head-same (k .head .ranges-is) };
+    half = k .half;
+    few = k .few;
+    any = k .any;
+    unset = λ e. rw head-same (k .unset e);
+    fresh = k .fresh;
+    there = λ h. tail-same (k .there h);
+    view = λ f l h. rw committed-same (same-view f l h (ℕ-discrete f n) harmless ∙ k .view f l h);
+  }

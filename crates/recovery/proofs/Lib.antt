@@ -1,0 +1,22 @@
+-- Laws of the definitions in specs/, and the proof that what a store of frames kept is found again after any list of steps and cuts.
+pub mod Sorted
+pub mod ContentsLaws
+pub mod SizeLaws
+pub mod Invariant
+pub mod GenerationLaws
+pub mod NoteLaws
+pub mod TailLaws
+pub mod Harmless
+pub mod Writes
+pub mod StepOut
+pub mod StepTail
+pub mod StepMove
+pub mod StepHead
+pub mod Calls
+pub mod PlaceLaws
+pub mod WaitLaws
+pub mod OrderedLaws
+pub mod Accept
+pub mod FrameTheorem
+pub mod SumLaws
+pub mod Trace

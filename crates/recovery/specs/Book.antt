@@ -1,0 +1,48 @@
+-- The book of frames (document 01, 'The book', for the frame layer's own calls).
+-- Assumes nothing.
+use Prim.Native.Nat.{ℕ, _<_}
+use lib.ListN.{length}
+use mathlib.Core.List.{List, [], _∷_}
+use mathlib.Core.Option.{Option, none, some, Option·getD}
+use mathlib.Core.Path.{_≡_}
+use Rattle.recovery.specs.Contents.{Contents, FrameBytes, overlay}
+use Rattle.recovery.specs.Step.{Kind, page, directory, trailer, migration, header}
+
+-- what was asked of frames: present now, as of the last snapshot (if its header is not yet written), as of the last header
+pub record FrameBook : Type 0 where
+  pub present : Contents
+  pub marked : Option Contents
+  pub kept : Contents
+
+abbrev pub markedOr : FrameBook → Contents
+markedOr b = Option·getD (b .marked) (b .kept)
+
+-- the changed frames in one table
+unfoldable pub applyChanges : List FrameBytes → Contents → Contents
+applyChanges [] v = v
+applyChanges (w ∷ ws) v = applyChanges ws (overlay (w ∷ []) v)
+
+abbrev pub bookChange : List FrameBytes → FrameBook → FrameBook
+bookChange ws b = record { present = applyChanges ws (b .present); marked = b .marked; kept = b .kept }
+
+abbrev pub bookSnapshot : FrameBook → FrameBook
+bookSnapshot b = record { present = b .present; marked = some (b .present); kept = b .kept }
+
+abbrev pub bookStart : FrameBook → FrameBook
+bookStart b = record { present = b .kept; marked = none; kept = b .kept }
+
+-- a header write reached the card
+abbrev pub bookHeader : FrameBook → FrameBook
+bookHeader b = record { present = b .present; marked = none; kept = markedOr b }
+
+abbrev pub bookWrote : Kind → FrameBook → FrameBook
+bookWrote page b = b
+bookWrote directory b = b
+bookWrote trailer b = b
+bookWrote migration b = b
+bookWrote header b = bookHeader b
+
+-- ---- frames that a change may hand down: home frames, with a whole block of bytes
+
+abbrev pub WholeFrame : ℕ → ℕ → FrameBytes → Type 0
+WholeFrame area blocks w = (length (w .bytes) ≡ 512) × (area < w .frame) × (w .frame < blocks)

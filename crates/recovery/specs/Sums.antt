@@ -1,0 +1,73 @@
+-- Questions 12 to 20 once more, as plain sums over the ledger: what demand 2 holds the questions to.
+-- Assumes nothing.
+use Prim.Native.Nat.{ℕ, _+_, _-_, _/_}
+use lib.Dec.{leb, ltb, eqb}
+use lib.ListN.{length, replicate}
+use mathlib.Core.Bool.{Bool, true, false, cond}
+use mathlib.Core.List.{List, [], _∷_, _++_}
+use mathlib.Core.Option.{Option, none, some}
+use Rattle.card.specs.Question.{Question, ask}
+use Rattle.card.specs.Ring.{dirBlocks, generationSize}
+use Rattle.recovery.specs.Contents.{FrameBytes}
+use Rattle.recovery.specs.Directory.{Note, turnOf}
+use Rattle.recovery.specs.State.{Generation, State, places, entryCount}
+use Rattle.recovery.specs.Step.{Kind, page, directory, trailer, migration, header}
+
+abbrev pub isSome : Option ℕ → Bool
+isSome none = false
+isSome (some i) = true
+
+-- does a frame wait in the current generation, and has it an entry there?
+unfoldable pub waitsIn : ℕ → Generation → Bool
+waitsIn f g = isSome (turnOf f (g .pagesDown) (g .entries))
+
+unfoldable pub notedIn : ℕ → List Note → Bool
+notedIn f [] = false
+notedIn f (e ∷ es) = cond (eqb f (e .frame)) true (notedIn f es)
+
+-- k, and how many entries come new
+unfoldable pub placesNeeded : List FrameBytes → Generation → ℕ
+placesNeeded [] g = 0
+placesNeeded (w ∷ ws) g = cond (waitsIn (w .frame) g) 0 1 + placesNeeded ws g
+
+unfoldable pub entriesNeeded : List FrameBytes → Generation → ℕ
+entriesNeeded [] g = 0
+entriesNeeded (w ∷ ws) g = cond (notedIn (w .frame) (g .entries)) 0 1 + entriesNeeded ws g
+
+-- the current size after the call
+abbrev pub sizeAfter : List FrameBytes → State → ℕ
+sizeAfter ws s = generationSize (places (s .current) + placesNeeded ws (s .current)) (entryCount (s .current) + entriesNeeded ws (s .current))
+
+-- the writes that advance has still to make, in document 01's order
+unfoldable pub remainingWrites : State → List Kind
+remainingWrites s =
+    let e = entryCount (s .pending) in
+    let m = replicate (length (s .committed .entries) - s .migrated) migration in
+    cond (eqb e 0) m
+    (replicate (length (s .pending .waiting)) page
+    ++ (replicate (dirBlocks e - s .tailDown) directory ++ (replicate (1 - (s .tailDown - dirBlocks e)) trailer ++ (m ++ (header ∷ [])))))
+
+unfoldable pub firstOf : List Kind → Option Kind
+firstOf [] = none
+firstOf (k ∷ ks) = some k
+
+-- 12 to 14: places taken and needed, entries with the new ones, half the area, the area, and memory
+unfoldable pub roomSums : List FrameBytes → State → List Question
+roomSums ws s =
+    let k = placesNeeded ws (s .current) in
+    cond (eqb k 0) []
+    (ask 12 (leb (sizeAfter ws s) (s .area / 2))
+    ∷ ask 13 (leb (generationSize (s .committed .places) (length (s .committed .entries)) + generationSize (places (s .pending)) (entryCount (s .pending)) + sizeAfter ws s) (s .area))
+    ∷ ask 14 (leb (length (s .pending .waiting) + length (s .current .waiting) + k) (s .memoryFrames)) ∷ [])
+
+-- 16 to 18: none is pending, an entry is there, the commit number has a next
+unfoldable pub snapshotSums : State → List Question
+snapshotSums s = ask 16 (eqb (entryCount (s .pending)) 0) ∷ ask 17 (ltb 0 (entryCount (s .current))) ∷ ask 18 (ltb (s .commit) 4294967295) ∷ []
+
+-- 19: a frame waits
+unfoldable pub pageOutSums : State → List Question
+pageOutSums s = ask 19 (ltb 0 (length (s .pending .waiting) + length (s .current .waiting))) ∷ []
+
+-- 20: a write remains
+unfoldable pub advanceSums : State → List Question
+advanceSums s = ask 20 (ltb 0 (length (remainingWrites s))) ∷ []
