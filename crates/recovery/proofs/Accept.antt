@@ -85,7 +85,7 @@ module _ (blocks area : ℕ) (ranges : List Range) (commit : ℕ) (g : SortedGen
 
 -- ---- an accepted card is recoverable
 
-entries-told : (blocks area first p low : ℕ) (es : List Entry) → area ≤ low → entriesFit blocks area first p low es ≡ true
+pub entries-told : (blocks area first p low : ℕ) (es : List Entry) → area ≤ low → entriesFit blocks area first p low es ≡ true
     → All (λ e. low < e .frame) es × (All (Home area blocks) es × (All (Between area first 0 p) es × Rising es))
 unfolding entriesFit
 entries-told blocks area first p low [] l e = (tt, (tt, (tt, tt)))

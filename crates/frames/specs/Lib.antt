@@ -1,0 +1,3 @@
+-- The frame layer's promise.
+pub mod Promise
+pub mod Step

@@ -1,0 +1,4 @@
+// The frame layer: a store of frames, named by their home blocks, that survives any cut. It knows nothing of keys, counts or flags.
+pub mod page_out;
+pub mod place;
+pub mod question;

@@ -1,0 +1,89 @@
+// Page-out: the oldest waiting frame goes to the card, pending before current.
+use super::place;
+use super::question;
+use card::block;
+use card::ring;
+use record::store::Store;
+ghost use mathlib.Core.Path.{_≡_};
+ghost use Prim.Native.Nat.{_≤_, _<_};
+ghost use lib.ListN.{length};
+ghost use Rattle.card.specs.Question.{firstNo};
+ghost use Rattle.record.specs.Meaning.{stateOf};
+ghost use Rattle.recovery.specs.Step.{outWrite, outOf, pendingTo, currentTo};
+ghost use Rattle.frames.specs.Promise.{commonAsks, pageOut, lent, numbered, FrameKept};
+ghost use Rattle.frames.specs.Step.{WriteDone};
+
+// What a call that answers with a number hands back.
+#[repr(C)]
+pub struct Done {
+    pub answer: u32,
+    pub store: Store,
+}
+
+// The oldest frame that waits for the pending snapshot.
+pub fn pending(s: Store, card: &mut [u8], memory: &[u8]) -> Store
+    requires { ⌜ (firstNo (commonAsks s (length (now memory)) (length (now card))) ≡ 0) × (s .pending .down < s .pending .taken) ⌝ }
+    ensures { λ t. ⌜ WriteDone (outWrite (s .geometry .area) (stateOf s (now (memory .entry)) .pending)) (pendingTo (outOf (stateOf s (now (memory .entry)) .pending)) (s .tail) (stateOf s (now (memory .entry))))
+        (now (memory .entry)) (now (card .entry)) t (now (card .exit)) ⌝ }
+{
+    let head = s.head;
+    let down = s.pending.down;
+    let first = place::pending_first(s);
+    let to = ring::at(s.geometry.area, first, down);
+    let next = place::seat(s.frames, head, 1);
+    let after = down + 1;
+    block::put(card, to, block::at(memory, head));
+    let mut t = s;
+    t.head = next;
+    t.pending.down = after;
+    t
+}
+
+// The oldest frame of the current generation, where none waits for a snapshot.
+fn current(s: Store, card: &mut [u8], memory: &[u8]) -> Store
+    requires { ⌜ (firstNo (commonAsks s (length (now memory)) (length (now card))) ≡ 0) × ((s .pending .taken ≤ s .pending .down) × (s .current .down < s .current .taken)) ⌝ }
+    ensures { λ t. ⌜ WriteDone (outWrite (s .geometry .area) (stateOf s (now (memory .entry)) .current)) (currentTo (outOf (stateOf s (now (memory .entry)) .current)) (stateOf s (now (memory .entry))))
+        (now (memory .entry)) (now (card .entry)) t (now (card .exit)) ⌝ }
+{
+    let head = s.head;
+    let down = s.current.down;
+    let first = place::current_first(s);
+    let to = ring::at(s.geometry.area, first, down);
+    let next = place::seat(s.frames, head, 1);
+    let after = down + 1;
+    block::put(card, to, block::at(memory, head));
+    let mut t = s;
+    t.head = next;
+    t.current.down = after;
+    t
+}
+
+pub fn page_out(s: Store, card: &mut [u8], memory: &[u8]) -> Done
+    ensures { λ r. ⌜ FrameKept pageOut (lent s (now (memory .entry)) (now (card .entry))) (numbered (r .answer)) (lent (r .store) (now (memory .entry)) (now (card .exit))) ⌝ }
+{
+    let no = question::common(s, memory.len(), card.len());
+    if no != 0 {
+        return Done {
+            answer: no,
+            store: s,
+        };
+    }
+    if s.pending.down < s.pending.taken {
+        let t = pending(s, card, memory);
+        return Done {
+            answer: 0,
+            store: t,
+        };
+    }
+    if s.current.taken <= s.current.down {
+        return Done {
+            answer: 19,
+            store: s,
+        };
+    }
+    let t = current(s, card, memory);
+    Done {
+        answer: 0,
+        store: t,
+    }
+}

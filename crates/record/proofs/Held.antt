@@ -1,0 +1,268 @@
+-- Question 2 as facts: what a record that holds together tells, and that these facts are all of it.
+-- Assumes nothing.
+use Prim.Native.Nat.{ℕ, _+_, _≤_, _<_}
+use borrow.Author.Tests.{ltb-true, leb-true, eqb-true, eqb-false, lt-ltb, le-leb, eq-eqb, ne-eqb}
+use lib.Dec.{leb, ltb, eqb}
+use lib.ListN.{getD}
+use mathlib.Core.Bool.{true, cond, _&&_}
+use mathlib.Core.Logic.{_≢_}
+use mathlib.Core.Path.{_≡_, refl}
+use native.Mathlib.Decide.{ℕ-discrete}
+use native.Mathlib.Omega.{arith}
+use Rattle.card.proofs.RangeLaws.{geometry-tells}
+use Rattle.card.proofs.RingLaws.{size-some}
+use Rattle.card.proofs.Test.{byTest, both, joined}
+use Rattle.card.specs.Directory.{entriesOf}
+use Rattle.card.specs.Question.{entriesFit}
+use Rattle.card.specs.Range.{rangesOf, geometryFits}
+use Rattle.card.specs.Ring.{half, generationSize}
+use Rattle.record.proofs.Tests.{within-each, each-within, once-apart, apart-once, alone-stands, stands-alone, alone-each, each-alone}
+use Rattle.record.specs.Holds.{geometryHolds, committedHolds, pendingHolds, currentHolds, sizesHold, tailFor, orderHolds, memoryHolds, countsHold, spansHold, changesHold, holdsTogether}
+use Rattle.record.specs.Lists.{cells, once, allWithin}
+use Rattle.record.specs.Meaning.{waits, sizeOf, committedSizeOf}
+use Rattle.record.specs.declared.store.Changes.{Changes}
+use Rattle.record.specs.declared.store.Store.{Store}
+
+-- what it tells of the pending or the current directory
+pub record Listed (area blocks : ℕ) (g : Changes) : Type 0 where
+  pub home : (i : ℕ) → i < g .count → (area < getD (g .frames) i 0) × (getD (g .frames) i 0 < blocks)
+  pub single : (i j : ℕ) → i < j → j < g .count → getD (g .frames) i 0 ≢ getD (g .frames) j 0
+  pub taken : (i : ℕ) → i < g .count → getD (g .places) i 0 < g .taken
+  -- each place that is not down is the last one of exactly one entry
+  pub stands : (k : ℕ) → g .down ≤ k → k < g .taken → (i : ℕ) × (i < g .count) × (getD (g .places) i 0 ≡ k) × ((j : ℕ) → j < g .count → getD (g .places) j 0 ≡ k → j ≡ i)
+
+-- ---- the pending or the current directory
+
+module _ (area blocks : ℕ) (g : Changes) where
+  pub listed : changesHold area blocks g ≡ true → Listed area blocks g
+  unfolding changesHold
+  listed e =
+      let a = both (allWithin (area + 1) blocks (cells (g .frames) 0 (g .count))) _ e in
+      let b = both (once (cells (g .frames) 0 (g .count))) _ (a .1) in
+      let c = both (allWithin 0 (g .taken) (cells (g .places) 0 (g .count))) _ (b .1) in
+      record {
+        home = λ i h. let p = within-each (area + 1) blocks (λ k. getD (g .frames) k 0) 0 (g .count) (a .0) i (omega arith) (omega arith) in (omega (arith, p .0), p .1);
+        single = λ i j l h. once-apart (λ k. getD (g .frames) k 0) 0 (g .count) (b .0) i j (omega arith) l (omega arith);
+        taken = λ i h. within-each 0 (g .taken) (λ k. getD (g .places) k 0) 0 (g .count) (c .0) i (omega arith) (omega arith) .1;
+        stands = λ k l h.
+            let p = alone-stands (λ k. getD (g .places) k 0) k 0 (g .count) (alone-each (cells (g .places) 0 (g .count)) (g .down) (waits g) (c .1) k l (omega arith)) in
+            (p .0, omega (arith, p .2), p .3, λ j q r. p .4 j (omega arith) (omega arith) r);
+      }
+
+  pub listed-back : Listed area blocks g → changesHold area blocks g ≡ true
+  unfolding changesHold
+  listed-back h =
+      joined (allWithin (area + 1) blocks (cells (g .frames) 0 (g .count))) _
+      (each-within (area + 1) blocks (λ k. getD (g .frames) k 0) 0 (g .count) (λ i a b. let p = h .home i (omega arith) in (omega (arith, p .0), p .1)))
+      (joined (once (cells (g .frames) 0 (g .count))) _
+      (apart-once (λ k. getD (g .frames) k 0) 0 (g .count) (λ i j a l b. h .single i j l (omega arith)))
+      (joined (allWithin 0 (g .taken) (cells (g .places) 0 (g .count))) _
+      (each-within 0 (g .taken) (λ k. getD (g .places) k 0) 0 (g .count) (λ i a b. (omega arith, h .taken i (omega arith))))
+      (each-alone (cells (g .places) 0 (g .count)) (g .down) (waits g)
+      (λ k a b.
+      let p = h .stands k a (omega arith) in
+      stands-alone (λ i. getD (g .places) i 0) k 0 (g .count) (p .0, omega arith, omega (arith, p .1), p .2, λ j c d q. p .3 j (omega arith) q)))))
+
+pub record Held (s : Store) : Type 0 where
+  pub geometry : geometryFits (s .geometry .blocks) (s .geometry .area) (rangesOf (s .geometry .ranges) (s .geometry .count)) ≡ true
+  pub first-low : 1 ≤ s .first
+  pub first-high : s .first ≤ s .geometry .area
+  pub none-committed : s .commit ≡ 0 → (s .committed .count ≡ 0) × (s .pages ≡ 0) × (s .first ≡ 1)
+  pub some-committed : 0 < s .commit → 1 ≤ s .committed .count
+  pub committed-few : s .committed .count ≤ s .pages
+  pub commit-limit : 0 < s .pending .count → s .commit < 4294967295
+  pub pending-few : s .pending .count ≤ s .pending .taken
+  pub pending-down : s .pending .down ≤ s .pending .taken
+  pub none-pending : s .pending .count ≡ 0 → s .pending .taken ≡ 0
+  pub current-few : s .current .count ≤ s .current .taken
+  pub current-down : s .current .down ≤ s .current .taken
+  pub half-committed : committedSizeOf s ≤ half (s .geometry .area)
+  pub half-pending : sizeOf (s .pending) ≤ half (s .geometry .area)
+  pub half-current : sizeOf (s .current) ≤ half (s .geometry .area)
+  pub room : committedSizeOf s + sizeOf (s .pending) + sizeOf (s .current) ≤ s .geometry .area
+  pub migrated-within : s .migrated ≤ s .committed .count
+  pub tail-within : s .tail ≤ tailFor (s .pending .count)
+  pub tail-after : 0 < s .tail → waits (s .pending) ≡ 0
+  pub head-low : s .head < s .frames
+  pub seated : waits (s .pending) + waits (s .current) ≤ s .frames
+  pub committed : entriesFit (s .geometry .blocks) (s .geometry .area) (s .first) (s .pages) (s .geometry .area) (entriesOf (s .committed .frames) (s .committed .blocks) (s .committed .count)) ≡ true
+  pub pending : Listed (s .geometry .area) (s .geometry .blocks) (s .pending)
+  pub current : Listed (s .geometry .area) (s .geometry .blocks) (s .current)
+
+-- bounds that geometry and sizes give
+pub record Bounds (s : Store) : Type 0 where
+  pub area-low : 8 ≤ s .geometry .area
+  pub area-high : s .geometry .area ≤ 512
+  pub area-inside : s .geometry .area < s .geometry .blocks
+  pub committed-small : s .committed .count ≤ 256
+  pub committed-pages : s .committed .count ≢ 0 → s .pages ≤ 256
+  pub pending-small : s .pending .count ≤ 256
+  pub pending-taken : s .pending .taken ≤ 256
+  pub current-small : s .current .count ≤ 256
+  pub current-taken : s .current .count ≢ 0 → s .current .taken ≤ 256
+
+-- ---- the tests of counts, by their cases
+
+module _ (commit area first p e : ℕ) where
+  none-told : committedHolds commit area first p e ≡ true → commit ≡ 0 → (e ≡ 0) × (p ≡ 0) × (first ≡ 1)
+  unfolding committedHolds
+  none-told h z =
+      let a = both (eqb e 0) (eqb p 0 && eqb first 1) (rw (eq-eqb commit 0 z) at h) in
+      let b = both (eqb p 0) _ (a .1) in
+      (eqb-true _ _ (a .0), eqb-true _ _ (b .0), eqb-true _ _ (b .1))
+
+  some-told : committedHolds commit area first p e ≡ true → 0 < commit → (1 ≤ e) × (e ≤ p) × (1 ≤ first) × (first ≤ area)
+  unfolding committedHolds
+  some-told h z =
+      let a = both (leb 1 e) (leb e p && (leb 1 first && leb first area)) (rw (ne-eqb commit 0 (omega arith)) at h) in
+      let b = both (leb e p) _ (a .1) in
+      let c = both (leb 1 first) _ (b .1) in
+      (leb-true _ _ (a .0), leb-true _ _ (b .0), leb-true _ _ (c .0), leb-true _ _ (c .1))
+
+  -- what holds in either case
+  committed-told : committedHolds commit area first p e ≡ true → 1 ≤ area → (1 ≤ first) × (first ≤ area) × (e ≤ p)
+  committed-told h l = go (ℕ-discrete commit 0)
+    where
+      go : Dec (commit ≡ 0) → (1 ≤ first) × (first ≤ area) × (e ≤ p)
+      go (yes z) = let n = none-told h z in (omega (arith, n .2), omega (arith, n .2), omega (arith, n .0))
+      go (no z) = let n = some-told h (omega arith) in (n .2, n .3, n .1)
+
+module _ (commit p e down : ℕ) (h : pendingHolds commit p e down ≡ true) where
+  pending-told : (down ≤ p) × (cond (eqb e 0) (eqb p 0) (leb e p && ltb commit 4294967295) ≡ true)
+  unfolding pendingHolds
+  pending-told = let a = both (leb down p) _ h in (leb-true _ _ (a .0), a .1)
+
+  no-pending : e ≡ 0 → p ≡ 0
+  no-pending z = eqb-true p 0 (rw (eq-eqb e 0 z) at (pending-told .1))
+
+  any-pending : 0 < e → (e ≤ p) × (commit < 4294967295)
+  any-pending l = let a = both (leb e p) (ltb commit 4294967295) (rw (ne-eqb e 0 (omega arith)) at (pending-told .1)) in (leb-true _ _ (a .0), ltb-true _ _ (a .1))
+
+  few-pending : e ≤ p
+  few-pending = go (ℕ-discrete e 0)
+    where
+      go : Dec (e ≡ 0) → e ≤ p
+      go (yes z) = omega arith
+      go (no z) = any-pending (omega arith) .0
+
+-- ---- question 2
+
+pub held : (s : Store) → holdsTogether s ≡ true → Held s
+unfolding holdsTogether countsHold geometryHolds currentHolds spansHold sizesHold orderHolds memoryHolds
+held s h =
+    let area = s .geometry .area in
+    let blocks = s .geometry .blocks in
+    let counts = both (countsHold s) _ h in
+    let spans = both (spansHold s) _ (counts .1) in
+    let listing = both (entriesFit blocks area (s .first) (s .pages) area (entriesOf (s .committed .frames) (s .committed .blocks) (s .committed .count))) _ (spans .1) in
+    let changes = both (changesHold area blocks (s .pending)) _ (listing .1) in
+    let a = both (geometryFits blocks area (rangesOf (s .geometry .ranges) (s .geometry .count))) _ (counts .0) in
+    let b = both (committedHolds (s .commit) area (s .first) (s .pages) (s .committed .count)) _ (a .1) in
+    let c = both (pendingHolds (s .commit) (s .pending .taken) (s .pending .count) (s .pending .down)) _ (b .1) in
+    let d = both (leb (s .current .count) (s .current .taken)) _ (c .1) in
+    let sizes = both (sizesHold area (committedSizeOf s) (sizeOf (s .pending)) (sizeOf (s .current))) _ (spans .0) in
+    let rest = both (orderHolds (s .migrated) (s .committed .count) (s .tail) (s .pending .count) (waits (s .pending))) _ (sizes .1) in
+    let f = both (leb (committedSizeOf s) (half area)) _ (sizes .0) in
+    let g = both (leb (sizeOf (s .pending)) (half area)) _ (f .1) in
+    let k = both (leb (sizeOf (s .current)) (half area)) _ (g .1) in
+    let m = both (leb (s .migrated) (s .committed .count)) _ (rest .0) in
+    let n = both (leb (s .tail) (tailFor (s .pending .count))) _ (m .1) in
+    let o = both (ltb (s .head) (s .frames)) _ (rest .1) in
+    let low : 8 ≤ s .geometry .area = geometry-tells _ _ _ (a .0) .area-low in
+    let p = committed-told (s .commit) (s .geometry .area) (s .first) (s .pages) (s .committed .count) (b .0) (omega arith) in
+    record {
+      geometry = a .0;
+      first-low = p .0;
+      first-high = p .1;
+      none-committed = none-told (s .commit) area (s .first) (s .pages) (s .committed .count) (b .0);
+      some-committed = λ l. some-told (s .commit) area (s .first) (s .pages) (s .committed .count) (b .0) l .0;
+      committed-few = p .2;
+      commit-limit = λ l. any-pending (s .commit) (s .pending .taken) (s .pending .count) (s .pending .down) (c .0) l .1;
+      pending-few = few-pending (s .commit) (s .pending .taken) (s .pending .count) (s .pending .down) (c .0);
+      pending-down = pending-told (s .commit) (s .pending .taken) (s .pending .count) (s .pending .down) (c .0) .0;
+      none-pending = no-pending (s .commit) (s .pending .taken) (s .pending .count) (s .pending .down) (c .0);
+      current-few = leb-true _ _ (d .0);
+      current-down = leb-true _ _ (d .1);
+      half-committed = leb-true _ _ (f .0);
+      half-pending = leb-true _ _ (g .0);
+      half-current = leb-true _ _ (k .0);
+      room = leb-true _ _ (k .1);
+      migrated-within = leb-true _ _ (m .0);
+      tail-within = leb-true _ _ (n .0);
+      tail-after = λ l. eqb-true (waits (s .pending)) 0 (rw (ne-eqb (s .tail) 0 (omega arith)) at (n .1));
+      head-low = ltb-true _ _ (o .0);
+      seated = leb-true _ _ (o .1);
+      committed = listing .0;
+      pending = listed area blocks (s .pending) (changes .0);
+      current = listed area blocks (s .current) (changes .1);
+    }
+
+pub together : (s : Store) → Held s → holdsTogether s ≡ true
+unfolding holdsTogether countsHold geometryHolds committedHolds pendingHolds currentHolds spansHold sizesHold orderHolds memoryHolds
+together s h =
+    joined (countsHold s) _
+    (joined (geometryFits (s .geometry .blocks) (s .geometry .area) (rangesOf (s .geometry .ranges) (s .geometry .count))) _ (h .geometry)
+    (joined (committedHolds (s .commit) (s .geometry .area) (s .first) (s .pages) (s .committed .count)) _ committed-yes
+    (joined (pendingHolds (s .commit) (s .pending .taken) (s .pending .count) (s .pending .down)) _ pending-yes
+    (joined (leb (s .current .count) (s .current .taken)) _ (le-leb _ _ (h .current-few)) (le-leb _ _ (h .current-down))))))
+    (joined (spansHold s) _
+    (joined (sizesHold (s .geometry .area) (committedSizeOf s) (sizeOf (s .pending)) (sizeOf (s .current))) _
+    (joined (leb (committedSizeOf s) (half (s .geometry .area))) _ (le-leb _ _ (h .half-committed))
+    (joined (leb (sizeOf (s .pending)) (half (s .geometry .area))) _ (le-leb _ _ (h .half-pending))
+    (joined (leb (sizeOf (s .current)) (half (s .geometry .area))) _ (le-leb _ _ (h .half-current)) (le-leb _ _ (h .room)))))
+    (joined (orderHolds (s .migrated) (s .committed .count) (s .tail) (s .pending .count) (waits (s .pending))) _
+    (joined (leb (s .migrated) (s .committed .count)) _ (le-leb _ _ (h .migrated-within))
+    (joined (leb (s .tail) (tailFor (s .pending .count))) _ (le-leb _ _ (h .tail-within)) tail-yes))
+    (joined (ltb (s .head) (s .frames)) _ (lt-ltb _ _ (h .head-low)) (le-leb _ _ (h .seated)))))
+    (joined (entriesFit (s .geometry .blocks) (s .geometry .area) (s .first) (s .pages) (s .geometry .area) (entriesOf (s .committed .frames) (s .committed .blocks) (s .committed .count))) _ (h .committed)
+    (joined (changesHold (s .geometry .area) (s .geometry .blocks) (s .pending)) _ (listed-back (s .geometry .area) (s .geometry .blocks) (s .pending) (h .pending))
+    (listed-back (s .geometry .area) (s .geometry .blocks) (s .current) (h .current)))))
+  where
+    committed-yes : committedHolds (s .commit) (s .geometry .area) (s .first) (s .pages) (s .committed .count) ≡ true
+    committed-yes = byTest (λ t. t ≡ true) (eqb (s .commit) 0)
+        (λ z. let n = h .none-committed (eqb-true _ _ z) in joined (eqb (s .committed .count) 0) _ (eq-eqb _ _ (n .0)) (joined (eqb (s .pages) 0) _ (eq-eqb _ _ (n .1)) (eq-eqb _ _ (n .2))))
+        (λ z. let ne : s .commit ≢ 0 = eqb-false _ _ z in joined (leb 1 (s .committed .count)) _ (le-leb _ _ (h .some-committed (omega arith)))
+        (joined (leb (s .committed .count) (s .pages)) _ (le-leb _ _ (h .committed-few)) (joined (leb 1 (s .first)) _ (le-leb _ _ (h .first-low)) (le-leb _ _ (h .first-high)))))
+
+    pending-yes : pendingHolds (s .commit) (s .pending .taken) (s .pending .count) (s .pending .down) ≡ true
+    pending-yes = joined (leb (s .pending .down) (s .pending .taken)) _ (le-leb _ _ (h .pending-down)) (byTest (λ t. t ≡ true) (eqb (s .pending .count) 0)
+        (λ z. eq-eqb _ _ (h .none-pending (eqb-true _ _ z)))
+        (λ z. let ne : s .pending .count ≢ 0 = eqb-false _ _ z in joined (leb (s .pending .count) (s .pending .taken)) _ (le-leb _ _ (h .pending-few)) (lt-ltb _ _ (h .commit-limit (omega arith)))))
+
+    tail-yes : cond (eqb (s .tail) 0) true (eqb (waits (s .pending)) 0) ≡ true
+    tail-yes = byTest (λ t. t ≡ true) (eqb (s .tail) 0) (λ z. refl) (λ z. let ne : s .tail ≢ 0 = eqb-false _ _ z in eq-eqb _ _ (h .tail-after (omega arith)))
+
+-- ---- bounds
+
+-- a generation of a size that fits
+small : (p e area : ℕ) → e ≤ p → generationSize p e ≤ half area → area ≤ 512 → (e ≤ 256) × (e ≢ 0 → p ≤ 256)
+small p e area few fits high = (go (ℕ-discrete e 0), some)
+  where
+    some : e ≢ 0 → p ≤ 256
+    some z = omega (arith, size-some p e (omega arith))
+
+    go : Dec (e ≡ 0) → e ≤ 256
+    go (yes z) = omega arith
+    go (no z) = omega (arith, some z)
+
+pub bounds : (s : Store) → Held s → Bounds s
+bounds s h =
+    let g = geometry-tells _ _ _ (h .geometry) in
+    let a = small (s .pages) (s .committed .count) (s .geometry .area) (h .committed-few) (h .half-committed) (g .area-high) in
+    let b = small (s .pending .taken) (s .pending .count) (s .geometry .area) (h .pending-few) (h .half-pending) (g .area-high) in
+    let c = small (s .current .taken) (s .current .count) (s .geometry .area) (h .current-few) (h .half-current) (g .area-high) in
+    record {
+      area-low = g .area-low;
+      area-high = g .area-high;
+      area-inside = omega (arith, g .full);
+      committed-small = a .0;
+      committed-pages = a .1;
+      pending-small = b .0;
+      pending-taken = go b (ℕ-discrete (s .pending .count) 0);
+      current-small = c .0;
+      current-taken = c .1;
+    }
+  where
+    go : (s .pending .count ≤ 256) × (s .pending .count ≢ 0 → s .pending .taken ≤ 256) → Dec (s .pending .count ≡ 0) → s .pending .taken ≤ 256
+    go b (yes z) = omega (arith, h .none-pending z)
+    go b (no z) = b .1 z

@@ -1,0 +1,127 @@
+-- What parts of question 2 tell before the rest of it is asked: bounds for the code that asks it.
+-- Assumes nothing.
+use Prim.Native.Nat.{ℕ, _+_, _-_, _≤_}
+use borrow.Author.Tests.{leb-true, eqb-true, le-leb, lt-leb, eq-eqb}
+use lib.Dec.{leb, eqb}
+use mathlib.Core.Bool.{Bool, true}
+use mathlib.Core.Logic.{⊎-elim}
+use mathlib.Core.Path.{_≡_, sym, _∙_}
+use native.Mathlib.Omega.{arith}
+use Rattle.card.proofs.RangeLaws.{geometry-tells}
+use Rattle.card.proofs.RingLaws.{size-some}
+use Rattle.card.proofs.Test.{byTest, both, le-or-lt}
+use Rattle.card.specs.Range.{rangesOf}
+use Rattle.card.specs.Ring.{half, generationSize}
+use Rattle.record.specs.Holds.{geometryHolds, committedHolds, pendingHolds, currentHolds, sizesHold, countsHold, spansHold}
+use Rattle.record.specs.Meaning.{sizeOf, committedSizeOf}
+use Rattle.record.specs.declared.store.Store.{Store}
+
+-- a sum tested as a difference
+pub sum-leb : (a b c : ℕ) → a ≤ c → leb b (c - a) ≡ leb (a + b) c
+sum-leb a b c h = ⊎-elim
+    (λ k. le-leb b (c - a) (omega arith) ∙ sym (le-leb (a + b) c k))
+    (λ k. lt-leb b (c - a) (omega arith) ∙ sym (lt-leb (a + b) c k))
+    (le-or-lt (a + b) c)
+
+-- ---- sizes
+
+pub size-none : (p e : ℕ) → e ≡ 0 → generationSize p e ≡ 0
+unfolding generationSize
+size-none p e h = rw (eq-eqb e 0 h)
+
+-- a size that is small bounds the entries
+pub entries-small : (p e most : ℕ) → e ≤ p → generationSize p e ≤ most → e ≤ most
+entries-small p e most h k = ⊎-elim (λ l. omega (arith, size-some p e l)) (λ l. omega arith) (le-or-lt 1 e)
+
+pub record Sizes (area a b c : ℕ) : Type 0 where
+  pub half-a : a ≤ half area
+  pub half-b : b ≤ half area
+  pub half-c : c ≤ half area
+
+pub sizes-tell : (area a b c : ℕ) → sizesHold area a b c ≡ true → Sizes area a b c
+unfolding sizesHold
+sizes-tell area a b c e =
+    let p = both (leb a (half area)) _ e in
+    let q = both (leb b (half area)) _ (p .1) in
+    let r = both (leb c (half area)) _ (q .1) in
+    record { half-a = leb-true a (half area) (p .0); half-b = leb-true b (half area) (q .0); half-c = leb-true c (half area) (r .0) }
+
+-- ---- counts
+
+committed-tells : (commit area first p e : ℕ) → 8 ≤ area → committedHolds commit area first p e ≡ true → (first ≤ area) × (e ≤ p)
+unfolding committedHolds
+committed-tells commit area first p e low = byTest (λ (t : Bool). t ≡ true → (first ≤ area) × (e ≤ p)) (eqb commit 0)
+    (λ z h.
+    let a = both (eqb e 0) _ h in
+    let b = both (eqb p 0) _ (a .1) in
+    omega (arith, eqb-true e 0 (a .0), eqb-true first 1 (b .1)))
+    (λ z h.
+    let a = both (leb 1 e) _ h in
+    let b = both (leb e p) _ (a .1) in
+    let c = both (leb 1 first) _ (b .1) in
+    (leb-true first area (c .1), leb-true e p (b .0)))
+
+pending-tells : (commit p e down : ℕ) → pendingHolds commit p e down ≡ true → (down ≤ p) × (e ≤ p)
+unfolding pendingHolds
+pending-tells commit p e down h =
+    let a = both (leb down p) _ h in (
+      leb-true down p (a .0),
+      byTest (λ (t : Bool). t ≡ true → e ≤ p) (eqb e 0) (λ z k. omega (arith, eqb-true e 0 z)) (λ z k. leb-true e p (both (leb e p) _ k .0)) (a .1),
+    )
+
+current-tells : (p e down : ℕ) → currentHolds p e down ≡ true → (down ≤ p) × (e ≤ p)
+unfolding currentHolds
+current-tells p e down h = let a = both (leb e p) _ h in (leb-true down p (a .1), leb-true e p (a .0))
+
+pub record Counts (s : Store) : Type 0 where
+  pub area : s .geometry .area ≤ 512
+  pub first : s .first ≤ s .geometry .area
+  pub committed : s .committed .count ≤ s .pages
+  pub pending : s .pending .count ≤ s .pending .taken
+  pub pending-down : s .pending .down ≤ s .pending .taken
+  pub current : s .current .count ≤ s .current .taken
+  pub current-down : s .current .down ≤ s .current .taken
+
+pub counts-tell : (s : Store) → countsHold s ≡ true → Counts s
+unfolding countsHold geometryHolds
+counts-tell s e =
+    let a = both (geometryHolds (s .geometry)) _ e in
+    let b = both (committedHolds (s .commit) (s .geometry .area) (s .first) (s .pages) (s .committed .count)) _ (a .1) in
+    let c = both (pendingHolds (s .commit) (s .pending .taken) (s .pending .count) (s .pending .down)) _ (b .1) in
+    let g = geometry-tells (s .geometry .blocks) (s .geometry .area) (rangesOf (s .geometry .ranges) (s .geometry .count)) (a .0) in
+    let committed = committed-tells (s .commit) (s .geometry .area) (s .first) (s .pages) (s .committed .count) (g .area-low) (b .0) in
+    let pending = pending-tells (s .commit) (s .pending .taken) (s .pending .count) (s .pending .down) (c .0) in
+    let current = current-tells (s .current .taken) (s .current .count) (s .current .down) (c .1) in
+    record {
+      area = g .area-high;
+      first = committed .0;
+      committed = committed .1;
+      pending = pending .1;
+      pending-down = pending .0;
+      current = current .1;
+      current-down = current .0;
+    }
+
+-- ---- counts and sizes together
+
+pub record Small (s : Store) : Type 0 where
+  pub area : s .geometry .area ≤ 512
+  pub first : s .first ≤ s .geometry .area
+  pub committed : s .committed .count ≤ 256
+  pub pending : s .pending .count ≤ 256
+  pub current : s .current .count ≤ 256
+
+pub sizes-small : (s : Store) → countsHold s ≡ true → sizesHold (s .geometry .area) (committedSizeOf s) (sizeOf (s .pending)) (sizeOf (s .current)) ≡ true → Small s
+sizes-small s e f =
+    let c = counts-tell s e in
+    let z = sizes-tell (s .geometry .area) (committedSizeOf s) (sizeOf (s .pending)) (sizeOf (s .current)) f in
+    let most = half (s .geometry .area) in
+    let area : s .geometry .area ≤ 512 = c .area in
+    let a : s .committed .count ≤ most = entries-small (s .pages) (s .committed .count) most (c .committed) (z .half-a) in
+    let b : s .pending .count ≤ most = entries-small (s .pending .taken) (s .pending .count) most (c .pending) (z .half-b) in
+    let d : s .current .count ≤ most = entries-small (s .current .taken) (s .current .count) most (c .current) (z .half-c) in
+    record { area = area; first = c .first; committed = omega arith; pending = omega arith; current = omega arith }
+
+pub spans-small : (s : Store) → countsHold s ≡ true → spansHold s ≡ true → Small s
+unfolding spansHold
+spans-small s e f = sizes-small s e (both (sizesHold (s .geometry .area) (committedSizeOf s) (sizeOf (s .pending)) (sizeOf (s .current))) _ f .0)

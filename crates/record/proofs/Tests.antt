@@ -1,0 +1,145 @@
+-- What tests over tabulated numbers tell of each index, and back.
+-- Assumes nothing.
+use Prim.Native.Nat.{ℕ, zero, suc, _+_, _≤_, _<_}
+use borrow.Author.Tests.{ltb-true, leb-true, eqb-false, not-true, lt-ltb, le-leb, eq-eqb, ne-eqb}
+use lib.Dec.{leb, ltb, eqb}
+use mathlib.Core.Bool.{Bool, true, false, cond, _&&_, false≢true}
+use mathlib.Core.List.{List, _∷_, _++_}
+use mathlib.Core.Logic.{_≢_}
+use mathlib.Core.Path.{_≡_, refl, ap, sym, _∙_}
+use native.Mathlib.Decide.{ℕ-discrete}
+use native.Mathlib.Nat.{add-zero, zero-add}
+use native.Mathlib.Omega.{arith}
+use Rattle.card.proofs.Test.{both, joined}
+use Rattle.card.specs.Bytes.{tabulate, All}
+use Rattle.record.specs.Lists.{elem, once, alone, allAlone, within, allWithin}
+
+-- ---- every index of a run
+
+-- the first index of a run, or a later one
+run : (P : ℕ → Type 0) (i n : ℕ) → P i → ((k : ℕ) → suc i ≤ k → k < suc i + n → P k) → (k : ℕ) → i ≤ k → k < i + suc n → P k
+run P i n p q k a b = go (ℕ-discrete i k)
+  where
+    go : Dec (i ≡ k) → P k
+    go (yes e) = rw e at p
+    go (no d) = q k (omega arith) (omega arith)
+
+-- what holds of every value holds at each index
+pub tab-all : {A : Type 0} (P : A → Type 0) (f : ℕ → A) (i n : ℕ) → All P (tabulate f i n) → (k : ℕ) → i ≤ k → k < i + n → P (f k)
+unfolding tabulate
+tab-all P f i zero h = λ k a b. absurd (omega arith)
+tab-all P f i (suc n) h = run (λ k. P (f k)) i n (h .0) (tab-all P f (suc i) n (h .1))
+
+-- two runs that adjoin are one
+pub tab-append : {A : Type 0} (f : ℕ → A) (i n k : ℕ) → tabulate f i n ++ tabulate f (i + n) k ≡ tabulate f i (n + k)
+unfolding tabulate
+tab-append f i zero k = rw (add-zero, zero-add)
+tab-append f i (suc n) k =
+    let e : suc n + k ≡ suc (n + k) = omega arith in
+    let d : i + suc n ≡ suc i + n = omega arith in
+    rw (e, d) (ap (λ l. f i ∷ l) (tab-append f (suc i) n k))
+
+-- ---- allWithin
+
+module _ (low high : ℕ) (f : ℕ → ℕ) where
+  pub within-each : (i n : ℕ) → allWithin low high (tabulate f i n) ≡ true → (k : ℕ) → i ≤ k → k < i + n → (low ≤ f k) × (f k < high)
+  unfolding tabulate allWithin within
+  within-each i zero h = λ k a b. absurd (omega arith)
+  within-each i (suc n) h =
+      let p = both (leb low (f i) && ltb (f i) high) _ h in
+      let q = both (leb low (f i)) _ (p .0) in
+      run (λ k. (low ≤ f k) × (f k < high)) i n (leb-true _ _ (q .0), ltb-true _ _ (q .1)) (within-each (suc i) n (p .1))
+
+  pub each-within : (i n : ℕ) → ((k : ℕ) → i ≤ k → k < i + n → (low ≤ f k) × (f k < high)) → allWithin low high (tabulate f i n) ≡ true
+  unfolding tabulate allWithin within
+  each-within i zero h = refl
+  each-within i (suc n) h =
+      let p = h i (omega arith) (omega arith) in
+      joined (leb low (f i) && ltb (f i) high) _ (joined (leb low (f i)) _ (le-leb _ _ (p .0)) (lt-ltb _ _ (p .1))) (each-within (suc i) n (λ k a b. h k (omega arith) (omega arith)))
+
+-- ---- elem
+
+-- both answers no
+neither : (a b : Bool) → cond a true b ≡ false → (a ≡ false) × (b ≡ false)
+neither true b e = absurd (false≢true (sym e))
+neither false b e = (refl, e)
+
+module _ (f : ℕ → ℕ) (x : ℕ) where
+  elem-none : (i n : ℕ) → elem x (tabulate f i n) ≡ false → (k : ℕ) → i ≤ k → k < i + n → f k ≢ x
+  unfolding tabulate elem
+  elem-none i zero h = λ k a b. absurd (omega arith)
+  elem-none i (suc n) h =
+      let p = neither (eqb (f i) x) _ h in
+      run (λ k. f k ≢ x) i n (eqb-false _ _ (p .0)) (elem-none (suc i) n (p .1))
+
+  none-elem : (i n : ℕ) → ((k : ℕ) → i ≤ k → k < i + n → f k ≢ x) → elem x (tabulate f i n) ≡ false
+  unfolding tabulate elem
+  none-elem i zero h = refl
+  none-elem i (suc n) h = rw (ne-eqb (f i) x (h i (omega arith) (omega arith))) (none-elem (suc i) n (λ k a b. h k (omega arith) (omega arith)))
+
+-- ---- once
+
+-- the first answer no, the second yes
+second : (a b : Bool) → cond a false b ≡ true → (a ≡ false) × (b ≡ true)
+second true b e = absurd (false≢true e)
+second false b e = (refl, e)
+
+module _ (f : ℕ → ℕ) where
+  pub once-apart : (i n : ℕ) → once (tabulate f i n) ≡ true → (j k : ℕ) → i ≤ j → j < k → k < i + n → f j ≢ f k
+  unfolding tabulate once
+  once-apart i zero h j k a l b = absurd (omega arith)
+  once-apart i (suc n) h j k a l b =
+      let p = second (elem (f i) (tabulate f (suc i) n)) _ h in
+      run (λ (j : ℕ). j < k → f j ≢ f k) i n (λ q e. elem-none f (f i) (suc i) n (p .0) k (omega arith) (omega arith) (sym e))
+      (λ j c d q. once-apart (suc i) n (p .1) j k c q (omega arith)) j a (omega arith) l
+
+  pub apart-once : (i n : ℕ) → ((j k : ℕ) → i ≤ j → j < k → k < i + n → f j ≢ f k) → once (tabulate f i n) ≡ true
+  unfolding tabulate once
+  apart-once i zero h = refl
+  apart-once i (suc n) h =
+      rw (none-elem f (f i) (suc i) n (λ k a b e. h i k (omega arith) (omega arith) (omega arith) (sym e)))
+      (apart-once (suc i) n (λ j k a l b. h j k (omega arith) l (omega arith)))
+
+  -- ---- alone
+
+  -- x stands at exactly one of the n indexes from i on
+  abbrev pub Stands : ℕ → ℕ → ℕ → Type 0
+  Stands x i n = (k : ℕ) × (i ≤ k) × (k < i + n) × (f k ≡ x) × ((j : ℕ) → i ≤ j → j < i + n → f j ≡ x → j ≡ k)
+
+  pub alone-stands : (x i n : ℕ) → alone x (tabulate f i n) ≡ true → Stands x i n
+  unfolding tabulate alone
+  alone-stands x i zero h = absurd (false≢true h)
+  alone-stands x i (suc n) h = go (ℕ-discrete (f i) x) (alone-stands x (suc i) n)
+    where
+      go : Dec (f i ≡ x) → (alone x (tabulate f (suc i) n) ≡ true → Stands x (suc i) n) → Stands x i (suc n)
+      go (yes e) rec =
+          let absent : elem x (tabulate f (suc i) n) ≡ false = not-true _ (rw (eq-eqb (f i) x e) at h) in
+          (i, omega arith, omega arith, e, run (λ j. f j ≡ x → j ≡ i) i n (λ q. refl) (λ j a b q. absurd (elem-none f x (suc i) n absent j a b q)))
+      go (no d) rec =
+          let r = rec (rw (ne-eqb (f i) x d) at h) in
+          (r .0, omega (arith, r .1), omega (arith, r .2), r .3, run (λ j. f j ≡ x → j ≡ r .0) i n (λ q. absurd (d q)) (r .4))
+
+  pub stands-alone : (x i n : ℕ) → Stands x i n → alone x (tabulate f i n) ≡ true
+  unfolding tabulate alone
+  stands-alone x i zero s = absurd (omega (arith, s .1, s .2))
+  stands-alone x i (suc n) s = go (ℕ-discrete (f i) x) (stands-alone x (suc i) n)
+    where
+      go : Dec (f i ≡ x) → (Stands x (suc i) n → alone x (tabulate f (suc i) n) ≡ true) → alone x (tabulate f i (suc n)) ≡ true
+      go (yes e) rec =
+          rw (eq-eqb (f i) x e, none-elem f x (suc i) n (λ k a b q. omega (arith, s .4 i (omega arith) (omega arith) e, s .4 k (omega arith) (omega arith) q)))
+      go (no d) rec =
+          let other : i ≢ s .0 = λ q. d (ap f q ∙ s .3) in
+          rw (ne-eqb (f i) x d) (rec (s .0, omega (arith, s .1), omega (arith, s .2), s .3, λ j a b q. s .4 j (omega arith) (omega arith) q))
+
+-- ---- allAlone
+
+module _ (l : List ℕ) where
+  pub alone-each : (i n : ℕ) → allAlone l i n ≡ true → (k : ℕ) → i ≤ k → k < i + n → alone k l ≡ true
+  unfolding allAlone
+  alone-each i zero h = λ k a b. absurd (omega arith)
+  alone-each i (suc n) h = let p = both (alone i l) _ h in run (λ k. alone k l ≡ true) i n (p .0) (alone-each (suc i) n (p .1))
+
+  pub each-alone : (i n : ℕ) → ((k : ℕ) → i ≤ k → k < i + n → alone k l ≡ true) → allAlone l i n ≡ true
+  unfolding allAlone
+  each-alone i zero h = refl
+  each-alone i (suc n) h = joined (alone i l) _ (h i (omega arith) (omega arith)) (each-alone (suc i) n (λ k a b. h k (omega arith) (omega arith)))

@@ -1,0 +1,18 @@
+-- `record::hold::order_holds` meets its contract.
+-- Assumes nothing.
+use borrow.Author.Needs.{needs}
+use borrow.Author.Tests.{le-leb, lt-leb, eq-eqb, ne-eqb}
+use Rattle.record.specs.Holds.{orderHolds}
+use Rattle.record.proofs.hold.order_holds.Statement.{statement}
+use Rattle.record.proofs.hold.order_holds.Tie as tie
+
+pub order-holds-spec : {M : Type 1} → statement M
+unfolding orderHolds
+order-holds-spec =
+    tie.close
+    (tie.spec
+    (λ c. simp (lt-leb _ _ (c .if1 .taken)))
+    (λ c κs. search needs)
+    (λ c. simp (le-leb _ _ (c .before .before .if1 .left), ← c .before .tail-for .ensures, lt-leb _ _ (c .if2 .taken)))
+    (λ c. simp (le-leb _ _ (c .before .before .before .if1 .left), ← c .before .before .tail-for .ensures, le-leb _ _ (c .before .if2 .left), eq-eqb _ _ (c .if3 .taken)))
+    (λ c. simp (le-leb _ _ (c .before .before .before .if1 .left), ← c .before .before .tail-for .ensures, le-leb _ _ (c .before .if2 .left), ne-eqb _ _ (c .if3 .left))))

@@ -1,0 +1,74 @@
+-- Question 2: does the record hold together?
+-- Assumes nothing.
+use Prim.Native.Nat.{ℕ, _+_}
+use lib.Dec.{leb, ltb, eqb}
+use mathlib.Core.Bool.{Bool, true, cond, _&&_}
+use mathlib.Core.List.{tail}
+use Rattle.card.specs.Directory.{entriesOf}
+use Rattle.card.specs.Question.{entriesFit}
+use Rattle.card.specs.Range.{rangesOf, geometryFits}
+use Rattle.card.specs.Ring.{half, dirBlocks}
+use Rattle.record.specs.Lists.{cells, once, allAlone, allWithin}
+use Rattle.record.specs.Meaning.{waits, sizeOf, committedSizeOf}
+use Rattle.record.specs.declared.store.Changes.{Changes}
+use Rattle.record.specs.declared.store.Geometry.{Geometry}
+use Rattle.record.specs.declared.store.Store.{Store}
+
+-- geometry passes 5
+unfoldable pub geometryHolds : Geometry → Bool
+geometryHolds g = geometryFits (g .blocks) (g .area) (rangesOf (g .ranges) (g .count))
+
+-- Commit is 0 if and only if there is no committed generation, and then the first stretch starts at block 1. A committed generation has 1 ≤ e ≤ p.
+unfoldable pub committedHolds : ℕ → ℕ → ℕ → ℕ → ℕ → Bool
+committedHolds commit area first p e = cond (eqb commit 0) (eqb e 0 && (eqb p 0 && eqb first 1)) (leb 1 e && (leb e p && (leb 1 first && leb first area)))
+
+-- Commit is below its limit if a generation is pending. That one has 1 ≤ e ≤ p, or there is none; no more places are down than are taken.
+unfoldable pub pendingHolds : ℕ → ℕ → ℕ → ℕ → Bool
+pendingHolds commit p e down = leb down p && cond (eqb e 0) (eqb p 0) (leb e p && ltb commit 4294967295)
+
+-- the current generation has e ≤ p
+unfoldable pub currentHolds : ℕ → ℕ → ℕ → Bool
+currentHolds p e down = leb e p && leb down p
+
+-- the stretches are each at most H, and together at most A; they adjoin by construction
+unfoldable pub sizesHold : ℕ → ℕ → ℕ → ℕ → Bool
+sizesHold area a b c = leb a (half area) && (leb b (half area) && (leb c (half area) && leb (a + b + c) area))
+
+-- directory and trailer blocks of a generation of e entries
+unfoldable pub tailFor : ℕ → ℕ
+tailFor e = cond (eqb e 0) 0 (dirBlocks e + 1)
+
+-- What advance has put down or copied is within its count and in its order: no directory block is down while a pending frame waits. The blocks down of
+-- directory and trailer are counted from the first on, so no trailer is down before all of them.
+unfoldable pub orderHolds : ℕ → ℕ → ℕ → ℕ → ℕ → Bool
+orderHolds migrated committed tail pending waiting = leb migrated committed && (leb tail (tailFor pending) && cond (eqb tail 0) true (eqb waiting 0))
+
+-- all that wait fit memory
+unfoldable pub memoryHolds : ℕ → ℕ → ℕ → Bool
+memoryHolds frames head waiting = ltb head frames && leb waiting frames
+
+-- geometry, commit number, and each generation's counts
+unfoldable pub countsHold : Store → Bool
+countsHold s =
+    geometryHolds (s .geometry)
+    && (committedHolds (s .commit) (s .geometry .area) (s .first) (s .pages) (s .committed .count)
+    && (pendingHolds (s .commit) (s .pending .taken) (s .pending .count) (s .pending .down) && currentHolds (s .current .taken) (s .current .count) (s .current .down)))
+
+-- the stretches, advance's work, and memory
+unfoldable pub spansHold : Store → Bool
+spansHold s =
+    sizesHold (s .geometry .area) (committedSizeOf s) (sizeOf (s .pending)) (sizeOf (s .current))
+    && (orderHolds (s .migrated) (s .committed .count) (s .tail) (s .pending .count) (waits (s .pending)) && memoryHolds (s .frames) (s .head) (waits (s .pending) + waits (s .current)))
+
+-- A directory names home blocks, none twice. Its places are taken ones, and each of its waiting frames stands in it once; every other entry has its block.
+unfoldable pub changesHold : ℕ → ℕ → Changes → Bool
+changesHold area blocks g =
+    allWithin (area + 1) blocks (cells (g .frames) 0 (g .count))
+    && (once (cells (g .frames) 0 (g .count)) && (allWithin 0 (g .taken) (cells (g .places) 0 (g .count)) && allAlone (cells (g .places) 0 (g .count)) (g .down) (waits g)))
+
+unfoldable pub holdsTogether : Store → Bool
+holdsTogether s =
+    countsHold s
+    && (spansHold s
+    && (entriesFit (s .geometry .blocks) (s .geometry .area) (s .first) (s .pages) (s .geometry .area) (entriesOf (s .committed .frames) (s .committed .blocks) (s .committed .count))
+    && (changesHold (s .geometry .area) (s .geometry .blocks) (s .pending) && changesHold (s .geometry .area) (s .geometry .blocks) (s .current))))

@@ -1,0 +1,97 @@
+-- What a record means: record and memory bytes to a state of the store.
+-- Assumes nothing.
+use Prim.Native.Nat.{ℕ, _+_, _-_}
+use lib.Dec.{ltb}
+use lib.ListN.{getD, replicate}
+use mathlib.Core.Bool.{cond}
+use mathlib.Core.List.{List}
+use mathlib.Core.Path.{_≡_}
+use Rattle.card.specs.Block.{blockAt}
+use Rattle.card.specs.Bytes.{tabulate}
+use Rattle.card.specs.Directory.{entriesOf}
+use Rattle.card.specs.Range.{rangesOf}
+use Rattle.card.specs.Ring.{ringAt, generationSize}
+use Rattle.record.specs.declared.store.Changes.{Changes}
+use Rattle.record.specs.declared.store.Store.{Store}
+use Rattle.recovery.specs.Directory.{Note}
+use Rattle.recovery.specs.State.{Committed, Generation, State}
+
+-- how many frames of a generation wait
+abbrev pub waits : Changes → ℕ
+waits g = g .taken - g .down
+
+-- entries in memory, in order of first change
+abbrev pub noteIn : List ℕ → List ℕ → ℕ → Note
+noteIn frames places i = record { frame = getD frames i 0; place = getD places i 0 }
+
+abbrev pub notesOf : Changes → List Note
+notesOf g = tabulate (noteIn (g .frames) (g .places)) 0 (g .count)
+
+-- the sizes of the three generations
+abbrev pub sizeOf : Changes → ℕ
+sizeOf g = generationSize (g .taken) (g .count)
+
+abbrev pub committedSizeOf : Store → ℕ
+committedSizeOf s = generationSize (s .pages) (s .committed .count)
+
+-- The waiting frames are one queue, the pending ones first. The i-th stands in the memory frame i on from head; after the last comes the first.
+unfoldable pub seatAt : ℕ → ℕ → ℕ → ℕ
+seatAt frames head i = cond (ltb (head + i) frames) (head + i) (head + i - frames)
+
+-- the bytes of n that wait, from the i-th on
+abbrev pub queueOf : Store → List ℕ → ℕ → ℕ → List (List ℕ)
+queueOf s memory i n = tabulate (λ k. blockAt memory (seatAt (s .frames) (s .head) k)) i n
+
+abbrev pub generationOf : ℕ → List (List ℕ) → Changes → Generation
+generationOf first waiting g = record { first = first; pagesDown = g .down; entries = notesOf g; waiting = waiting }
+
+abbrev pub committedOf : Store → Committed
+committedOf s = record { first = s .first; places = s .pages; entries = entriesOf (s .committed .frames) (s .committed .blocks) (s .committed .count) }
+
+-- the stretches adjoin
+abbrev pub pendingFirst : Store → ℕ
+pendingFirst s = ringAt (s .geometry .area) (s .first) (committedSizeOf s)
+
+abbrev pub currentFirst : Store → ℕ
+currentFirst s = ringAt (s .geometry .area) (s .first) (committedSizeOf s + sizeOf (s .pending))
+
+abbrev pub stateOf : Store → List ℕ → State
+stateOf s memory = record {
+  blocks = s .geometry .blocks;
+  area = s .geometry .area;
+  ranges = rangesOf (s .geometry .ranges) (s .geometry .count);
+  memoryFrames = s .frames;
+  commit = s .commit;
+  committed = committedOf s;
+  migrated = s .migrated;
+  pending = generationOf (pendingFirst s) (queueOf s memory 0 (waits (s .pending))) (s .pending);
+  tailDown = s .tail;
+  current = generationOf (currentFirst s) (queueOf s memory (waits (s .pending)) (waits (s .current))) (s .current);
+}
+
+-- ---- the record without content
+
+-- a generation without a change
+pub record NoChange (g : Changes) : Type 0 where
+  pub count : g .count ≡ 0
+  pub taken : g .taken ≡ 0
+  pub down : g .down ≡ 0
+
+abbrev pub zeroChanges : Changes
+zeroChanges = record { count = 0; taken = 0; down = 0; frames = replicate 256 0; places = replicate 256 0 }
+
+-- the record that a refused start hands out: of zeros, so that its memory length 0 fails question 1
+unfoldable pub zeroStore : Store
+zeroStore = record {
+  frames = 0;
+  head = 0;
+  geometry = record { blocks = 0; area = 0; count = 0; ranges = replicate 16 0 };
+  commit = 0;
+  first = 0;
+  pages = 0;
+  committed = record { count = 0; frames = replicate 256 0; blocks = replicate 256 0 };
+  migrated = 0;
+  pending = zeroChanges;
+  tail = 0;
+  current = zeroChanges;
+}

@@ -1,0 +1,256 @@
+// Question 2: does the record hold together? Sizes are asked before any loop, so that no directory is read beyond its array.
+use super::list;
+use super::store::Changes;
+use super::store::Geometry;
+use super::store::Store;
+use card::directory;
+use card::range;
+use card::ring;
+ghost use mathlib.Core.Path.{_≡_};
+ghost use mathlib.Core.Bool.{true};
+ghost use Prim.Native.Nat.{_+_, _≤_};
+ghost use lib.Dec.{leb};
+ghost use Rattle.card.specs.Directory.{entriesOf};
+ghost use Rattle.card.specs.Question.{entriesFit};
+ghost use Rattle.card.specs.Ring.{generationSize};
+ghost use Rattle.record.specs.Holds.{geometryHolds, committedHolds, pendingHolds, currentHolds, sizesHold, tailFor, orderHolds, memoryHolds, countsHold, spansHold, changesHold, holdsTogether};
+
+fn geometry_holds(g: Geometry) -> bool
+    ensures { λ r. ⌜ r ≡ geometryHolds g ⌝ }
+{
+    range::fits(g.blocks, g.area, &g.ranges, g.count)
+}
+
+fn committed_holds(commit: u32, area: usize, first: usize, p: usize, e: usize) -> bool
+    ensures { λ r. ⌜ r ≡ committedHolds commit area first p e ⌝ }
+{
+    if commit == 0 {
+        if e != 0 {
+            return false;
+        }
+        if p != 0 {
+            return false;
+        }
+        return first == 1;
+    }
+    if e < 1 {
+        return false;
+    }
+    if p < e {
+        return false;
+    }
+    if first < 1 {
+        return false;
+    }
+    first <= area
+}
+
+fn pending_holds(commit: u32, p: usize, e: usize, down: usize) -> bool
+    ensures { λ r. ⌜ r ≡ pendingHolds commit p e down ⌝ }
+{
+    if p < down {
+        return false;
+    }
+    if e == 0 {
+        return p == 0;
+    }
+    if p < e {
+        return false;
+    }
+    commit < 4294967295
+}
+
+fn current_holds(p: usize, e: usize, down: usize) -> bool
+    ensures { λ r. ⌜ r ≡ currentHolds p e down ⌝ }
+{
+    if p < e {
+        return false;
+    }
+    down <= p
+}
+
+// Is a generation's size at most half? The numbers may be anything.
+pub fn size_fits(p: usize, e: usize, half: usize) -> bool
+    requires { ⌜ half ≤ 256 ⌝ }
+    ensures { λ r. ⌜ r ≡ leb (generationSize p e) half ⌝ }
+{
+    if e == 0 {
+        return true;
+    }
+    if half < p {
+        return false;
+    }
+    if 64 * half < e {
+        return false;
+    }
+    ring::size(p, e) <= half
+}
+
+// A generation's size, where it is known to be small.
+pub fn size(p: usize, e: usize) -> usize
+    requires { ⌜ generationSize p e ≤ 512 ⌝ }
+    ensures { λ r. ⌜ r ≡ generationSize p e ⌝ }
+{
+    if e == 0 {
+        return 0;
+    }
+    ring::size(p, e)
+}
+
+// Is each size at most half the area, and are all together at most the area?
+fn sizes_hold(area: usize, p: usize, e: usize, q: usize, f: usize, r: usize, g: usize) -> bool
+    requires { ⌜ area ≤ 512 ⌝ }
+    ensures { λ t. ⌜ t ≡ sizesHold area (generationSize p e) (generationSize q f) (generationSize r g) ⌝ }
+{
+    let half = area / 2;
+    if !size_fits(p, e, half) {
+        return false;
+    }
+    if !size_fits(q, f, half) {
+        return false;
+    }
+    if !size_fits(r, g, half) {
+        return false;
+    }
+    size(p, e) + size(q, f) + size(r, g) <= area
+}
+
+pub fn tail_for(e: usize) -> usize
+    requires { ⌜ e ≤ 65536 ⌝ }
+    ensures { λ r. ⌜ r ≡ tailFor e ⌝ }
+{
+    if e == 0 {
+        return 0;
+    }
+    (e + 63) / 64 + 1
+}
+
+fn order_holds(
+    migrated: usize,
+    committed: usize,
+    tail: usize,
+    pending: usize,
+    waiting: usize,
+) -> bool
+    requires { ⌜ pending ≤ 65536 ⌝ }
+    ensures { λ r. ⌜ r ≡ orderHolds migrated committed tail pending waiting ⌝ }
+{
+    if committed < migrated {
+        return false;
+    }
+    if tail_for(pending) < tail {
+        return false;
+    }
+    if tail == 0 {
+        return true;
+    }
+    waiting == 0
+}
+
+fn memory_holds(frames: usize, head: usize, a: usize, b: usize) -> bool
+    ensures { λ r. ⌜ r ≡ memoryHolds frames head (a + b) ⌝ }
+{
+    if frames <= head {
+        return false;
+    }
+    if frames < a {
+        return false;
+    }
+    b <= frames - a
+}
+
+fn counts_hold(s: Store) -> bool
+    ensures { λ r. ⌜ r ≡ countsHold s ⌝ }
+{
+    let g = s.geometry;
+    if !geometry_holds(g) {
+        return false;
+    }
+    if !committed_holds(
+        s.commit,
+        s.geometry.area,
+        s.first,
+        s.pages,
+        s.committed.count,
+    ) {
+        return false;
+    }
+    if !pending_holds(s.commit, s.pending.taken, s.pending.count, s.pending.down) {
+        return false;
+    }
+    current_holds(s.current.taken, s.current.count, s.current.down)
+}
+
+fn spans_hold(s: Store) -> bool
+    requires { ⌜ countsHold s ≡ true ⌝ }
+    ensures { λ r. ⌜ r ≡ spansHold s ⌝ }
+{
+    if !sizes_hold(
+        s.geometry.area,
+        s.pages,
+        s.committed.count,
+        s.pending.taken,
+        s.pending.count,
+        s.current.taken,
+        s.current.count,
+    ) {
+        return false;
+    }
+    let p = s.pending.taken - s.pending.down;
+    let c = s.current.taken - s.current.down;
+    if !order_holds(s.migrated, s.committed.count, s.tail, s.pending.count, p) {
+        return false;
+    }
+    memory_holds(s.frames, s.head, p, c)
+}
+
+fn changes_hold(area: usize, blocks: usize, g: Changes) -> bool
+    requires { ⌜ (area ≤ 512) × (g .count ≤ 256) ⌝ }
+    ensures { λ r. ⌜ r ≡ changesHold area blocks g ⌝ }
+{
+    let n = g.count;
+    let p = g.taken;
+    let d = g.down;
+    if !list::all_within(&g.frames, n, area + 1, blocks) {
+        return false;
+    }
+    if !list::all_once(&g.frames, n) {
+        return false;
+    }
+    if !list::all_within(&g.places, n, 0, p) {
+        return false;
+    }
+    list::all_stand(&g.places, n, d, p)
+}
+
+// Question 2, of any record.
+pub fn holds_together(s: Store) -> bool
+    ensures { λ r. ⌜ r ≡ holdsTogether s ⌝ }
+{
+    if !counts_hold(s) {
+        return false;
+    }
+    if !spans_hold(s) {
+        return false;
+    }
+    let area = s.geometry.area;
+    let blocks = s.geometry.blocks;
+    let d = s.committed;
+    if !directory::fits(
+        blocks,
+        area,
+        s.first,
+        s.pages,
+        &d.frames,
+        &d.blocks,
+        d.count,
+    ) {
+        return false;
+    }
+    let b = s.pending;
+    if !changes_hold(area, blocks, b) {
+        return false;
+    }
+    let c = s.current;
+    changes_hold(area, blocks, c)
+}

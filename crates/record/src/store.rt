@@ -1,0 +1,98 @@
+// The record: what the store knows between calls.
+use card::directory::Directory;
+ghost use mathlib.Core.Path.{_≡_};
+ghost use Rattle.record.specs.Meaning.{zeroStore, NoChange};
+
+// The card's size, A, and the ranges: first OID and number of pages of each in turn.
+#[repr(C)]
+pub struct Geometry {
+    pub blocks: usize,
+    pub area: usize,
+    pub count: usize,
+    pub ranges: [u32; 16],
+}
+
+// The pending or the current generation: e entries in order of first change, each a frame and the last place that it took; p places taken; places put down.
+// Place i is the block i on from the generation's first. A frame waits where its place is not down.
+#[repr(C)]
+pub struct Changes {
+    pub count: usize,
+    pub taken: usize,
+    pub down: usize,
+    pub frames: [u32; 256],
+    pub places: [u32; 256],
+}
+
+// `frames` is the number of memory frames. Those that wait stand in them one after the other from `head` on, the pending ones first; after the last comes
+// the first. `first`, `pages` and `committed` are the committed generation's first block, its p, and its directory by rising frame. `migrated` counts committed entries copied home, `tail` the pending directory's and trailer's blocks that are down.
+#[repr(C)]
+pub struct Store {
+    pub frames: usize,
+    pub head: usize,
+    pub geometry: Geometry,
+    pub commit: u32,
+    pub first: usize,
+    pub pages: usize,
+    pub committed: Directory,
+    pub migrated: usize,
+    pub pending: Changes,
+    pub tail: usize,
+    pub current: Changes,
+}
+
+// A generation without a change.
+pub fn no_change() -> Changes
+    ensures { λ r. ⌜ NoChange r ⌝ }
+{
+    Changes {
+        count: 0,
+        taken: 0,
+        down: 0,
+        frames: [0u32; 256],
+        places: [0u32; 256],
+    }
+}
+
+// The record that a refused start hands out.
+pub fn zeros() -> Store
+    ensures { λ r. ⌜ r ≡ zeroStore ⌝ }
+{
+    let geometry = Geometry {
+        blocks: 0,
+        area: 0,
+        count: 0,
+        ranges: [0u32; 16],
+    };
+    let committed = Directory {
+        count: 0,
+        frames: [0u32; 256],
+        blocks: [0u32; 256],
+    };
+    let pending = Changes {
+        count: 0,
+        taken: 0,
+        down: 0,
+        frames: [0u32; 256],
+        places: [0u32; 256],
+    };
+    let current = Changes {
+        count: 0,
+        taken: 0,
+        down: 0,
+        frames: [0u32; 256],
+        places: [0u32; 256],
+    };
+    Store {
+        frames: 0,
+        head: 0,
+        geometry: geometry,
+        commit: 0,
+        first: 0,
+        pages: 0,
+        committed: committed,
+        migrated: 0,
+        pending: pending,
+        tail: 0,
+        current: current,
+    }
+}
