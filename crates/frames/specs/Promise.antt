@@ -8,13 +8,15 @@ use mathlib.Core.List.{List, _++_}
 use mathlib.Core.Option.{Option, none, some}
 use mathlib.Core.Path.{_≡_}
 use Rattle.card.specs.Question.{Question, firstNo}
+use Rattle.frames.specs.declared.answer.Advance.{Advance}
+use Rattle.frames.specs.declared.answer.Advance.the-variants.{P, D, T, M, H, Refused}
 use Rattle.record.specs.Holds.{holdsTogether}
 use Rattle.record.specs.Meaning.{stateOf, zeroStore}
 use Rattle.record.specs.declared.store.Store.{Store}
 use Rattle.recovery.specs.Contents.{FrameBytes}
 use Rattle.recovery.specs.Questions.{startAsks, heldAsks, roomAsks, snapshotAsks, pageOutAsks, advanceAsks}
 use Rattle.recovery.specs.State.{State, readFrame}
-use Rattle.recovery.specs.Step.{afterChange, afterSnapshot, Kind, kindWrite, afterKind, advanceDue, pageOutWrite, afterPageOut, startState}
+use Rattle.recovery.specs.Step.{afterChange, afterSnapshot, Kind, page, directory, trailer, migration, header, kindWrite, afterKind, advanceDue, pageOutWrite, afterPageOut, startState}
 use Rattle.recovery.specs.Write.{BlockWrite, putDown}
 
 -- what is lent to a call: the record, memory, the card
@@ -130,6 +132,15 @@ FrameKept c l a l′ = Keeps (outcome c l) (handedBack c l) l a l′
 -- an answer by number: 0 is done
 unfoldable pub numbered : ℕ → FrameAnswer
 numbered n = cond (eqb n 0) done (refused n)
+
+-- advance's answer: document 01's letters are the kinds that it reports
+unfoldable pub reported : Advance → FrameAnswer
+reported (P n) = wrote page n
+reported (D n) = wrote directory n
+reported (T n) = wrote trailer n
+reported (M n) = wrote migration n
+reported (H n) = wrote header n
+reported (Refused n) = refused n
 
 -- a load of a frame fills x with the frame's newest bytes
 abbrev pub Loads : Lent → ℕ → List ℕ → Type 0

@@ -1,19 +1,132 @@
--- What the parts of a call promise.
+-- What the parts of calls promise.
 -- Assumes nothing.
-use Prim.Native.Nat.{ℕ}
-use mathlib.Core.Bool.{true}
-use mathlib.Core.List.{List}
+use Prim.Native.Nat.{ℕ, _+_, _*_, _≤_, _<_}
+use lib.ListN.{length, set}
+use mathlib.Core.Bool.{true, false, cond}
+use mathlib.Core.List.{List, [], _∷_}
 use mathlib.Core.Path.{_≡_}
-use Rattle.card.specs.Block.{putBlock}
-use Rattle.frames.specs.Promise.{after}
+use Rattle.card.specs.Block.{blockAt, putBlock, whole}
+use Rattle.card.specs.Checkpoint.{Recovered}
+use Rattle.card.specs.Directory.{entriesOf}
+use Rattle.card.specs.Question.{firstNo}
+use Rattle.card.specs.declared.checkpoint.Checkpoint.{Checkpoint}
+use Rattle.card.specs.declared.directory.Directory.{Directory}
+use Rattle.frames.specs.declared.answer.Found.{Found}
+use Rattle.frames.specs.declared.answer.Need.{Need}
+use Rattle.frames.specs.declared.answer.Wrote.{Wrote}
 use Rattle.record.specs.Holds.{holdsTogether}
-use Rattle.record.specs.Meaning.{stateOf}
+use Rattle.record.specs.Meaning.{notesOf, generationOf, committedOf, stateOf}
+use Rattle.record.specs.declared.store.Changes.{Changes}
 use Rattle.record.specs.declared.store.Store.{Store}
-use Rattle.recovery.specs.State.{State}
+use Rattle.recovery.specs.Book.{WholeFrame}
+use Rattle.recovery.specs.Contents.{FrameBytes, overlay, storedFrames}
+use Rattle.recovery.specs.Directory.{dirOf}
+use Rattle.recovery.specs.Questions.{roomAsks}
+use Rattle.recovery.specs.State.{State, directoryOf, waitingFrames, readFrame}
+use Rattle.recovery.specs.Step.{afterChange, Kind, kindWrite, afterKind, startState}
+use Rattle.recovery.specs.Sums.{placesNeeded, entriesNeeded}
 use Rattle.recovery.specs.Write.{BlockWrite}
 
--- a block write that is done: the card, and a record that means the next state and holds together
-pub record WriteDone (w : BlockWrite) (next : State) (memory card : List ℕ) (t : Store) (after : List ℕ) : Type 0 where
+-- a block write that is done: the block that is reported, the card, and a record that means the next state and holds together
+pub record WriteDone (w : BlockWrite) (next : State) (memory card : List ℕ) (r : Wrote) (after : List ℕ) : Type 0 where
+  pub block-is : r .block ≡ w .block
   pub card-is : after ≡ putBlock card (w .block) (w .bytes)
-  pub meaning : stateOf t memory ≡ next
+  pub meaning : stateOf (r .store) memory ≡ next
+  pub together : holdsTogether (r .store) ≡ true
+
+-- one that needs no memory
+abbrev pub KindDone : Kind → Store → List ℕ → Wrote → List ℕ → Type 0
+KindDone k s card r after = (memory : List ℕ) → WriteDone (kindWrite k (stateOf s memory) card) (afterKind k (stateOf s memory)) memory card r after
+
+-- what a write to the card may rest on
+pub record Writable (s : Store) (card : List ℕ) : Type 0 where
+  pub together : holdsTogether s ≡ true
+  pub card-long : length card ≡ 512 * s .geometry .blocks
+  pub card-few : s .geometry .blocks ≤ 65536
+
+-- a step on the record alone
+pub record StepDone (next : State → State) (s t : Store) : Type 0 where
+  pub meaning : (memory : List ℕ) → stateOf t memory ≡ next (stateOf s memory)
+  pub together : holdsTogether t ≡ true
+
+-- ---- load
+
+-- the bytes at a memory frame or at a block of the card
+unfoldable pub foundBytes : Found → List ℕ → List ℕ → List ℕ
+foundBytes r card memory = cond (r .memory) (blockAt memory (r .number)) (blockAt card (r .number))
+
+-- where the bytes of a frame are, whatever card and memory hold
+pub record Located (s : Store) (bytes : List ℕ → List ℕ → List ℕ) (r : Found) : Type 0 where
+  pub there : (card memory : List ℕ) → foundBytes r card memory ≡ bytes card memory
+  pub in-memory : r .memory ≡ true → r .number < s .frames
+  pub on-card : r .memory ≡ false → r .number < s .geometry .blocks
+
+-- committed over home, and pending over these
+abbrev pub committedBytes : Store → ℕ → List ℕ → List ℕ → List ℕ
+committedBytes s f card memory = overlay (storedFrames card (committedOf s .entries)) (blockAt card) f
+
+abbrev pub pendingBytes : Store → ℕ → List ℕ → List ℕ → List ℕ
+pendingBytes s f card memory =
+    overlay (waitingFrames (stateOf s memory .pending)) (overlay (storedFrames card (directoryOf (s .geometry .area) (stateOf s memory .pending)))
+    (overlay (storedFrames card (committedOf s .entries)) (blockAt card))) f
+
+abbrev pub newestBytes : Store → ℕ → List ℕ → List ℕ → List ℕ
+newestBytes s f card memory = readFrame (stateOf s memory) card f
+
+-- ---- room and change
+
+abbrev pub framesOf : List FrameBytes → List ℕ
+framesOf [] = []
+framesOf (w ∷ ws) = w .frame ∷ framesOf ws
+
+-- new places and entries, of frames that are named once each
+pub record NeedIs (g : Changes) (frames : List ℕ) (r : Need) : Type 0 where
+  pub places : (first : ℕ) (waiting : List (List ℕ)) (ws : List FrameBytes) → framesOf ws ≡ frames → r .places ≡ placesNeeded ws (generationOf first waiting g)
+  pub entries : (first : ℕ) (waiting : List (List ℕ)) (ws : List FrameBytes) → framesOf ws ≡ frames → r .entries ≡ entriesNeeded ws (generationOf first waiting g)
+  pub most : (r .places ≤ length frames) × (r .entries ≤ length frames)
+
+-- the number of 12 to 14 for frames that are named once each
+abbrev pub RoomIs : Store → List ℕ → ℕ → Type 0
+RoomIs s frames n = (memory : List ℕ) (ws : List FrameBytes) → framesOf ws ≡ frames → n ≡ firstNo (roomAsks ws (stateOf s memory))
+
+-- what a change of one frame may rest on
+pub record Changeable (s : Store) (memory : List ℕ) (w : FrameBytes) : Type 0 where
+  pub together : holdsTogether s ≡ true
+  pub memory-long : length memory ≡ 512 * s .frames
+  pub memory-few : s .frames ≤ 64
+  pub card-few : s .geometry .blocks ≤ 65536
+  pub frame-whole : WholeFrame (s .geometry .area) (s .geometry .blocks) w
+  pub room : firstNo (roomAsks (w ∷ []) (stateOf s memory)) ≡ 0
+
+pub record ChangeDone (s : Store) (memory : List ℕ) (w : FrameBytes) (t : Store) (after : List ℕ) : Type 0 where
+  pub meaning : stateOf t after ≡ afterChange (w ∷ []) (stateOf s memory)
+  pub together : holdsTogether t ≡ true
+  pub long : length after ≡ length memory
+
+-- one entry more, at the next place
+pub record Entered (g : Changes) (f : ℕ) (r : Changes) : Type 0 where
+  pub is : r ≡ record { count = g .count + 1; taken = g .taken + 1; down = g .down; frames = set (g .frames) (g .count) f; places = set (g .places) (g .count) (g .taken) }
+  pub long : (length (g .frames) ≡ 256) × (length (g .places) ≡ 256)
+
+-- entry i at the next place
+pub record Replaced (g : Changes) (i : ℕ) (r : Changes) : Type 0 where
+  pub is : r ≡ record { count = g .count; taken = g .taken + 1; down = g .down; frames = g .frames; places = set (g .places) i (g .taken) }
+  pub long : length (g .places) ≡ 256
+
+-- ---- the pending directory by rising frame
+
+pub record Sorted (area first : ℕ) (g : Changes) (d : Directory) : Type 0 where
+  pub entries-are : entriesOf (d .frames) (d .blocks) (d .count) ≡ dirOf area first (g .taken) (notesOf g)
+  pub count-is : d .count ≡ g .count
+
+-- ---- start
+
+-- a card and memory that start accepts, with what was read of the card
+pub record Startable (memory card : List ℕ) (c : Checkpoint) : Type 0 where
+  pub memory-whole : whole 4 64 (length memory) ≡ true
+  pub read : Recovered card c
+  pub passed : c .refusal ≡ 0
+
+pub record Started (memory card : List ℕ) (t : Store) : Type 0 where
+  pub meaning : stateOf t memory ≡ startState memory card
   pub together : holdsTogether t ≡ true

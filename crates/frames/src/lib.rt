@@ -1,4 +1,5 @@
-// The frame layer: a store of frames, named by their home blocks, that survives any cut. It knows nothing of keys, counts or flags.
+// The frame layer.
+pub mod answer;
 pub mod page_out;
 pub mod place;
 pub mod question;

@@ -1,4 +1,6 @@
 // Page-out: the oldest waiting frame goes to the card, pending before current.
+use super::answer::Done;
+use super::answer::Wrote;
 use super::place;
 use super::question;
 use card::block;
@@ -13,18 +15,11 @@ ghost use Rattle.recovery.specs.Step.{outWrite, outOf, pendingTo, currentTo};
 ghost use Rattle.frames.specs.Promise.{commonAsks, pageOut, lent, numbered, FrameKept};
 ghost use Rattle.frames.specs.Step.{WriteDone};
 
-// What a call that answers with a number hands back.
-#[repr(C)]
-pub struct Done {
-    pub answer: u32,
-    pub store: Store,
-}
-
 // The oldest frame that waits for the pending snapshot.
-pub fn pending(s: Store, card: &mut [u8], memory: &[u8]) -> Store
+pub fn pending(s: Store, card: &mut [u8], memory: &[u8]) -> Wrote
     requires { ⌜ (firstNo (commonAsks s (length (now memory)) (length (now card))) ≡ 0) × (s .pending .down < s .pending .taken) ⌝ }
-    ensures { λ t. ⌜ WriteDone (outWrite (s .geometry .area) (stateOf s (now (memory .entry)) .pending)) (pendingTo (outOf (stateOf s (now (memory .entry)) .pending)) (s .tail) (stateOf s (now (memory .entry))))
-        (now (memory .entry)) (now (card .entry)) t (now (card .exit)) ⌝ }
+    ensures { λ r. ⌜ WriteDone (outWrite (s .geometry .area) (stateOf s (now (memory .entry)) .pending)) (pendingTo (outOf (stateOf s (now (memory .entry)) .pending)) (s .tail) (stateOf s (now (memory .entry))))
+        (now (memory .entry)) (now (card .entry)) r (now (card .exit)) ⌝ }
 {
     let head = s.head;
     let down = s.pending.down;
@@ -36,14 +31,17 @@ pub fn pending(s: Store, card: &mut [u8], memory: &[u8]) -> Store
     let mut t = s;
     t.head = next;
     t.pending.down = after;
-    t
+    Wrote {
+        block: to,
+        store: t,
+    }
 }
 
 // The oldest frame of the current generation, where none waits for a snapshot.
-fn current(s: Store, card: &mut [u8], memory: &[u8]) -> Store
+fn current(s: Store, card: &mut [u8], memory: &[u8]) -> Wrote
     requires { ⌜ (firstNo (commonAsks s (length (now memory)) (length (now card))) ≡ 0) × ((s .pending .taken ≤ s .pending .down) × (s .current .down < s .current .taken)) ⌝ }
-    ensures { λ t. ⌜ WriteDone (outWrite (s .geometry .area) (stateOf s (now (memory .entry)) .current)) (currentTo (outOf (stateOf s (now (memory .entry)) .current)) (stateOf s (now (memory .entry))))
-        (now (memory .entry)) (now (card .entry)) t (now (card .exit)) ⌝ }
+    ensures { λ r. ⌜ WriteDone (outWrite (s .geometry .area) (stateOf s (now (memory .entry)) .current)) (currentTo (outOf (stateOf s (now (memory .entry)) .current)) (stateOf s (now (memory .entry))))
+        (now (memory .entry)) (now (card .entry)) r (now (card .exit)) ⌝ }
 {
     let head = s.head;
     let down = s.current.down;
@@ -55,7 +53,10 @@ fn current(s: Store, card: &mut [u8], memory: &[u8]) -> Store
     let mut t = s;
     t.head = next;
     t.current.down = after;
-    t
+    Wrote {
+        block: to,
+        store: t,
+    }
 }
 
 pub fn page_out(s: Store, card: &mut [u8], memory: &[u8]) -> Done
@@ -69,7 +70,8 @@ pub fn page_out(s: Store, card: &mut [u8], memory: &[u8]) -> Done
         };
     }
     if s.pending.down < s.pending.taken {
-        let t = pending(s, card, memory);
+        let w = pending(s, card, memory);
+        let t = w.store;
         return Done {
             answer: 0,
             store: t,
@@ -81,7 +83,8 @@ pub fn page_out(s: Store, card: &mut [u8], memory: &[u8]) -> Done
             store: s,
         };
     }
-    let t = current(s, card, memory);
+    let w = current(s, card, memory);
+    let t = w.store;
     Done {
         answer: 0,
         store: t,
