@@ -3,3 +3,5 @@ pub mod QueueLaws
 pub mod ReadyLaws
 pub mod OutLaws
 pub mod KeepLaws
+pub mod CallLaws
+pub mod DueLaws
