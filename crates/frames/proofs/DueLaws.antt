@@ -96,14 +96,26 @@ module _ (s : Store) (m : List ℕ) where
 
       pub due-trailer : s .tail ≡ dirBlocks (s .pending .count) → advanceDue (stateOf s m) ≡ some trailer
       unfolding advanceDue
-      due-trailer h = rw (e-is, ne-eqb _ _ p, queue-length s m 0 (waits (s .pending)), le-ltb 0 (waits (s .pending)) (omega (arith, q)),
-          le-ltb (s .tail) (dirBlocks (s .pending .count)) (omega (arith, h)), eq-eqb _ _ h)
+      due-trailer h = rw (
+        e-is,
+        ne-eqb _ _ p,
+        queue-length s m 0 (waits (s .pending)),
+        le-ltb 0 (waits (s .pending)) (omega (arith, q)),
+        le-ltb (s .tail) (dirBlocks (s .pending .count)) (omega (arith, h)),
+        eq-eqb _ _ h,
+      )
 
       module _ (t : dirBlocks (s .pending .count) < s .tail) where
         behind : advanceDue (stateOf s m) ≡ migrationDue (stateOf s m) (some header)
         unfolding advanceDue
-        behind = rw (e-is, ne-eqb _ _ p, queue-length s m 0 (waits (s .pending)), le-ltb 0 (waits (s .pending)) (omega (arith, q)),
-            le-ltb (s .tail) (dirBlocks (s .pending .count)) (omega (arith, t)), ne-eqb (s .tail) (dirBlocks (s .pending .count)) (λ e. omega (arith, e, t)))
+        behind = rw (
+          e-is,
+          ne-eqb _ _ p,
+          queue-length s m 0 (waits (s .pending)),
+          le-ltb 0 (waits (s .pending)) (omega (arith, q)),
+          le-ltb (s .tail) (dirBlocks (s .pending .count)) (omega (arith, t)),
+          ne-eqb (s .tail) (dirBlocks (s .pending .count)) (λ e. omega (arith, e, t)),
+        )
 
         pub due-migration : s .migrated < s .committed .count → advanceDue (stateOf s m) ≡ some migration
         due-migration h = behind ∙ left (some header) h

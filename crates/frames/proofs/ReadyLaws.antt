@@ -3,6 +3,7 @@
 use Prim.Native.Nat.{ℕ, _+_, _*_, _/_, _%_, _≤_, _<_}
 use borrow.Author.Tests.{leb-true, eqb-true, eqb-false, eq-eqb, ne-eqb}
 use lib.Dec.{leb, eqb}
+use lib.ListN.{length}
 use mathlib.Core.Bool.{Bool, true, false, _&&_}
 use mathlib.Core.List.{List, [], _++_}
 use mathlib.Core.Logic.{_≢_, ⊎-elim}
@@ -16,6 +17,7 @@ use Rattle.card.specs.Bytes.{All}
 use Rattle.card.specs.Question.{Question, firstNo}
 use Rattle.card.specs.Ring.{ringAt, generationSize}
 use Rattle.frames.specs.Promise.{commonAsks}
+use Rattle.frames.specs.Step.{Writable}
 use Rattle.record.proofs.Held.{Held, held, bounds}
 use Rattle.record.specs.Holds.{holdsTogether}
 use Rattle.record.specs.Meaning.{sizeOf, committedSizeOf, pendingFirst, currentFirst}
@@ -108,3 +110,6 @@ pub area-block : (s : Store) (memory card : ℕ) → Ready s memory card → (fi
     → 512 * to + 512 ≤ card
 area-block s memory card r first i to f l e =
     omega (arith, r .card-is, e, ring-high (s .geometry .area) first i f l, bounds s (held s (r .together)) .area-inside)
+
+pub writable : (s : Store) (memory : ℕ) (card : List ℕ) → Ready s memory (length card) → Writable s card
+writable s memory card r = record { together = r .together; card-long = r .card-is; card-few = r .blocks-high }

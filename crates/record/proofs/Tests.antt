@@ -65,14 +65,14 @@ neither true b e = absurd (false≢true (sym e))
 neither false b e = (refl, e)
 
 module _ (f : ℕ → ℕ) (x : ℕ) where
-  elem-none : (i n : ℕ) → elem x (tabulate f i n) ≡ false → (k : ℕ) → i ≤ k → k < i + n → f k ≢ x
+  pub elem-none : (i n : ℕ) → elem x (tabulate f i n) ≡ false → (k : ℕ) → i ≤ k → k < i + n → f k ≢ x
   unfolding tabulate elem
   elem-none i zero h = λ k a b. absurd (omega arith)
   elem-none i (suc n) h =
       let p = neither (eqb (f i) x) _ h in
       run (λ k. f k ≢ x) i n (eqb-false _ _ (p .0)) (elem-none (suc i) n (p .1))
 
-  none-elem : (i n : ℕ) → ((k : ℕ) → i ≤ k → k < i + n → f k ≢ x) → elem x (tabulate f i n) ≡ false
+  pub none-elem : (i n : ℕ) → ((k : ℕ) → i ≤ k → k < i + n → f k ≢ x) → elem x (tabulate f i n) ≡ false
   unfolding tabulate elem
   none-elem i zero h = refl
   none-elem i (suc n) h = rw (ne-eqb (f i) x (h i (omega arith) (omega arith))) (none-elem (suc i) n (λ k a b. h k (omega arith) (omega arith)))

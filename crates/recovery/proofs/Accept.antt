@@ -33,7 +33,7 @@ use Rattle.recovery.specs.Questions.{startAsks}
 use Rattle.recovery.specs.Sound.{Rising, Home, Between}
 use Rattle.recovery.specs.Step.{startCommitted}
 
-entries-ok : (blocks area first p low : ℕ) (es : List Entry) → All (λ e. low < e .frame) es → All (Home area blocks) es → All (Between area first 0 p) es → Rising es
+pub entries-ok : (blocks area first p low : ℕ) (es : List Entry) → All (λ e. low < e .frame) es → All (Home area blocks) es → All (Between area first 0 p) es → Rising es
     → entriesFit blocks area first p low es ≡ true
 unfolding entriesFit
 entries-ok blocks area first p low [] a h b r = refl

@@ -19,4 +19,5 @@ pub mod OrderedLaws
 pub mod Accept
 pub mod FrameTheorem
 pub mod SumLaws
+pub mod RoomLaws
 pub mod Trace

@@ -53,7 +53,7 @@ module _ (area first : ℕ) where
 
   -- ---- where none waits every entry is in the directory
 
-  down-absent : (put f : ℕ) (es : List Note) → Unnoted f es → Absent f (dirOf area first put es)
+  pub down-absent : (put f : ℕ) (es : List Note) → Unnoted f es → Absent f (dirOf area first put es)
   unfolding dirOf
   down-absent put f es h = lookup-absent f _ (lookup-byFrame f _ ∙ go es h)
     where

@@ -60,7 +60,7 @@ turn-noted f put i (e ∷ es) = go (eqb f (e .frame)) (turn-noted f put i es)
 
 -- one frame
 module _ (w : FrameBytes) (g : Generation) where
-  one-place : places (changeFrame w g) ≡ places g + cond (waitsIn (w .frame) g) 0 1
+  pub one-place : places (changeFrame w g) ≡ places g + cond (waitsIn (w .frame) g) 0 1
   unfolding changeFrame waitsIn
   one-place = go (turnOf (w .frame) (g .pagesDown) (g .entries))
     where
@@ -68,7 +68,7 @@ module _ (w : FrameBytes) (g : Generation) where
       go none = unfold queued places in (omega (arith, length-append (g .waiting) (w .bytes ∷ [])))
       go (some i) = unfold queued places in (omega (arith, length-set (g .waiting) i (w .bytes)))
 
-  one-entry : entryCount (changeFrame w g) ≡ entryCount g + cond (notedIn (w .frame) (g .entries)) 0 1
+  pub one-entry : entryCount (changeFrame w g) ≡ entryCount g + cond (notedIn (w .frame) (g .entries)) 0 1
   unfolding changeFrame
   one-entry = go (turnOf (w .frame) (g .pagesDown) (g .entries)) refl
     where
@@ -92,12 +92,12 @@ module _ (w : FrameBytes) (g : Generation) where
       go none = unfold queued in (noted-other x (w .frame) (places g) (g .entries) d)
       go (some i) = unfold queued in refl
 
-  others-places : (ws : List FrameBytes) → All (λ x. x .frame ≢ w .frame) ws → placesNeeded ws (changeFrame w g) ≡ placesNeeded ws g
+  pub others-places : (ws : List FrameBytes) → All (λ x. x .frame ≢ w .frame) ws → placesNeeded ws (changeFrame w g) ≡ placesNeeded ws g
   unfolding placesNeeded
   others-places [] h = refl
   others-places (x ∷ xs) h = rw (other-waits (x .frame) (h .0), others-places xs (h .1))
 
-  others-entries : (ws : List FrameBytes) → All (λ x. x .frame ≢ w .frame) ws → entriesNeeded ws (changeFrame w g) ≡ entriesNeeded ws g
+  pub others-entries : (ws : List FrameBytes) → All (λ x. x .frame ≢ w .frame) ws → entriesNeeded ws (changeFrame w g) ≡ entriesNeeded ws g
   unfolding entriesNeeded
   others-entries [] h = refl
   others-entries (x ∷ xs) h = rw (other-noted (x .frame) (h .0), others-entries xs (h .1))

@@ -154,7 +154,7 @@ afterKind header s = record {
   memoryFrames = s .memoryFrames;
   commit = suc (s .commit);
   committed = record { first = s .pending .first; places = s .pending .pagesDown; entries = directoryOf (s .area) (s .pending) };
-  migrated = 0;
+  migrated = 0;  -- the new committed generation is nowhere home yet
   pending = empty (s .current .first);
   tailDown = 0;
   current = s .current;
@@ -195,7 +195,7 @@ startState m c =
       memoryFrames = length m / 512;
       commit = h .commit;
       committed = g;
-      migrated = 0;
+      migrated = 0;  -- start begins migration anew
       pending = empty (ringAt (h .area) (g .first) (committedSize g));
       tailDown = 0;
       current = empty (ringAt (h .area) (g .first) (committedSize g));

@@ -4,7 +4,6 @@ use borrow.Author.Needs.{needs}
 use native.Mathlib.Omega.{arith}
 use Rattle.frames.proofs.OutLaws.{current-done}
 use Rattle.frames.proofs.ReadyLaws.{ready, firsts, current-short, area-block}
-use Rattle.frames.specs.declared.answer.Advance.the-variants.{M}
 use Rattle.record.proofs.Held.{held, bounds}
 use Rattle.frames.proofs.page_out.current.Statement.{statement}
 use Rattle.frames.proofs.page_out.current.Tie as tie

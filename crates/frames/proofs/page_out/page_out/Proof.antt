@@ -3,7 +3,6 @@
 use borrow.Author.Needs.{needs}
 use mathlib.Core.Path.{sym, _∙_}
 use Rattle.frames.proofs.CallLaws.{page-out-common, page-out-none, page-out-pending, page-out-current}
-use Rattle.frames.specs.declared.answer.Advance.the-variants.{M}
 use Rattle.frames.proofs.page_out.page_out.Statement.{statement}
 use Rattle.frames.proofs.page_out.page_out.Tie as tie
 

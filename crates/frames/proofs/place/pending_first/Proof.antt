@@ -4,7 +4,6 @@ use Prim.Native.Nat.{ℕ}
 use mathlib.Core.Path.{ap, _∙_}
 use native.Mathlib.Omega.{arith}
 use Rattle.card.specs.Ring.{ringAt}
-use Rattle.frames.specs.declared.answer.Advance.the-variants.{M}
 use Rattle.record.proofs.Held.{held, bounds}
 use Rattle.frames.proofs.place.pending_first.Statement.{statement}
 use Rattle.frames.proofs.place.pending_first.Tie as tie

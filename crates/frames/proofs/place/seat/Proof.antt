@@ -3,7 +3,6 @@
 use borrow.Author.Needs.{needs}
 use borrow.Author.Tests.{lt-ltb, le-ltb}
 use mathlib.Core.Path.{refl}
-use Rattle.frames.specs.declared.answer.Advance.the-variants.{M}
 use Rattle.record.specs.Meaning.{seatAt}
 use Rattle.frames.proofs.place.seat.Statement.{statement}
 use Rattle.frames.proofs.place.seat.Tie as tie

@@ -4,7 +4,6 @@ use borrow.Author.Needs.{needs}
 use mathlib.Core.Path.{refl}
 use Rattle.card.proofs.QuestionLaws.{none-asked, asked-yes, asked-no}
 use Rattle.card.proofs.Test.{said-no, said-yes}
-use Rattle.frames.specs.declared.answer.Advance.the-variants.{M}
 use Rattle.recovery.specs.Questions.{heldAsks}
 use Rattle.frames.proofs.question.common.Statement.{statement}
 use Rattle.frames.proofs.question.common.Tie as tie

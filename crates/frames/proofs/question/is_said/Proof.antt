@@ -4,7 +4,6 @@ use borrow.Author.Needs.{needs}
 use mathlib.Core.Path.{refl}
 use Rattle.card.proofs.Test.{said-no, said-yes}
 use Rattle.frames.proofs.ReadyLaws.{whole-said}
-use Rattle.frames.specs.declared.answer.Advance.the-variants.{M}
 use Rattle.frames.proofs.question.is_said.Statement.{statement}
 use Rattle.frames.proofs.question.is_said.Tie as tie
 

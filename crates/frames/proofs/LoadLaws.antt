@@ -1,0 +1,271 @@
+-- Where a frame's newest bytes are, told by the first entry of the frame in each generation.
+-- Assumes nothing.
+use Prim.Native.Nat.{ℕ, zero, suc, _+_, _-_, _≤_, _<_}
+use borrow.Author.Tests.{eq-eqb, ne-eqb}
+use lib.Dec.{eqb}
+use lib.ListN.{length, getD}
+use mathlib.Core.Bool.{Bool, true, false, cond, false≢true}
+use mathlib.Core.List.{List, [], _∷_}
+use mathlib.Core.Logic.{_≢_}
+use mathlib.Core.Path.{_≡_, refl, ap, sym, _∙_}
+use native.Mathlib.Numerals.{add-one}
+use native.Mathlib.Omega.{arith}
+use Rattle.card.proofs.BytesLaws.{tab-start, tab-more, tab-end, tab-getD}
+use Rattle.card.proofs.RingLaws.{ring-high, size-some}
+use Rattle.card.specs.Block.{blockAt}
+use Rattle.card.specs.Bytes.{tabulate}
+use Rattle.card.specs.Directory.{entryIn, entriesOf}
+use Rattle.card.specs.Ring.{ringAt}
+use Rattle.card.specs.declared.directory.Entry.{Entry}
+use Rattle.frames.proofs.ReadyLaws.{firsts}
+use Rattle.frames.specs.Step.{Located, foundBytes, committedBytes}
+use Rattle.frames.specs.declared.answer.Found.{Found}
+use Rattle.record.proofs.Held.{Listed, Held, held, bounds}
+use Rattle.record.proofs.SoundLaws.{seat-low, frame-is, one-entry, queue-length}
+use Rattle.record.proofs.Tests.{tab-all}
+use Rattle.record.specs.Holds.{holdsTogether}
+use Rattle.record.specs.Lists.{First}
+use Rattle.record.specs.Meaning.{waits, noteIn, notesOf, seatAt, queueOf, generationOf, committedOf, pendingFirst, currentFirst}
+use Rattle.record.specs.declared.store.Changes.{Changes}
+use Rattle.record.specs.declared.store.Store.{Store}
+use Rattle.recovery.proofs.Accept.{entries-told}
+use Rattle.recovery.proofs.NoteLaws.{lookup-byFrame, lookup-hit, lookup-miss}
+use Rattle.recovery.proofs.PlaceLaws.{skip, is-down}
+use Rattle.recovery.proofs.Sorted.{Without, lookup}
+use Rattle.recovery.proofs.WaitLaws.{wait-without}
+use Rattle.recovery.specs.Contents.{Contents, FrameBytes, overlay, storedFrames}
+use Rattle.recovery.specs.Directory.{Note, downEntries, dirOf, frameOf, waitingFrom}
+use Rattle.recovery.specs.Sound.{Between}
+use Rattle.recovery.specs.State.{Generation, directoryOf, waitingFrames}
+
+-- ---- a search in a tabulated list
+
+-- What each element before i lets pass, and the rest has, the whole list has.
+first-skip : {A : Type 0} (P : List A → Type 0) (g : ℕ → A) (n i : ℕ) → i ≤ n → ((j : ℕ) → j < i → (xs : List A) → P xs → P (g j ∷ xs)) → P (tabulate g i (n - i)) → P (tabulate g 0 n)
+first-skip P g n zero h pass rest = rw (tab-start g n) at rest
+first-skip P g n (suc i) h pass rest =
+    let more : tabulate g i (n - i) ≡ g i ∷ tabulate g (suc i) (n - suc i) = rw (← add-one i) (tab-more g i n h) in
+    first-skip P g n i (omega arith) (λ j l. pass j (omega arith)) (rw more (pass i (omega arith) _ rest))
+
+module _ {A : Type 0} (P : List A → Type 0) (g : ℕ → A) (fs : List ℕ) (n f i : ℕ) (found : First fs n f i) (pass : (j : ℕ) → f ≢ getD fs j 0 → (xs : List A) → P xs → P (g j ∷ xs)) where
+  before : (j : ℕ) → j < i → (xs : List A) → P xs → P (g j ∷ xs)
+  before j l = pass j (λ e. found .before j l (sym e))
+
+  first-none : i ≡ n → P [] → P (tabulate g 0 n)
+  first-none e p = first-skip P g n i (found .most) before (rw (tab-end g i n (omega arith)) p)
+
+  first-found : i < n → ((xs : List A) → P (g i ∷ xs)) → P (tabulate g 0 n)
+  first-found h p = first-skip P g n i (found .most) before (rw (tab-more g i n h) (p _))
+
+-- ---- what layers show
+
+-- the bytes of a block that was looked up, or what lies below
+abbrev shown : List ℕ → List ℕ → ℕ → List ℕ
+shown c below zero = below
+shown c below (suc b) = blockAt c b
+
+overlay-lookup : (c : List ℕ) (es : List Entry) (base : Contents) (f : ℕ) → overlay (storedFrames c es) base f ≡ shown c (base f) (lookup f es)
+unfolding overlay storedFrames lookup
+overlay-lookup c [] base f = refl
+overlay-lookup c (e ∷ es) base f = go (eqb f (e .frame)) (overlay-lookup c es base f)
+  where
+    go : (t : Bool) → overlay (storedFrames c es) base f ≡ shown c (base f) (lookup f es)
+        → cond t (blockAt c (e .block)) (overlay (storedFrames c es) base f) ≡ shown c (base f) (cond t (suc (e .block)) (lookup f es))
+    go true rec = refl
+    go false rec = rec
+
+overlay-without : (ws : List FrameBytes) (base : Contents) (f : ℕ) → Without f ws → overlay ws base f ≡ base f
+unfolding overlay
+overlay-without [] base f h = refl
+overlay-without (w ∷ ws) base f h = rw (ne-eqb f (w .frame) (h .0)) (overlay-without ws base f (h .1))
+
+-- the frame waits at turn i
+overlay-turn : (es : List Note) (base : Contents) (f i k : ℕ) (xs : List (List ℕ)) → i < length xs → frameOf (k + i) es ≡ f → ((j : ℕ) → k ≤ j → j < k + i → f ≢ frameOf j es)
+    → overlay (waitingFrom es k xs) base f ≡ getD xs i []
+unfolding overlay waitingFrom
+overlay-turn es base f i k [] h is un = absurd (omega arith)
+overlay-turn es base f zero k (x ∷ xs) h is un =
+    let e : k + 0 ≡ k = omega arith in
+    rw (eq-eqb f (frameOf k es) (sym (rw e at is)))
+overlay-turn es base f (suc i) k (x ∷ xs) h is un =
+    let e : k + suc i ≡ suc k + i = omega arith in
+    rw (ne-eqb f (frameOf k es) (un k (omega arith) (omega arith))) (overlay-turn es base f i (suc k) xs (omega arith) (rw e at is) (λ j l m. un j (omega arith) (omega arith)))
+
+-- ---- what a generation shows of a frame
+
+module _ {area blocks : ℕ} {g : Changes} (h : Listed area blocks g) (first : ℕ) (w : List (List ℕ)) (long : length w ≡ waits g) (card : List ℕ) (base : Contents) (f i : ℕ) (found : First (g .frames) (g .count) f i) where
+  abbrev generation : Generation
+  generation = generationOf first w g
+
+  abbrev stored : Contents
+  stored = overlay (storedFrames card (directoryOf area generation)) base
+
+  -- the entry of a frame that waits
+  entry-of : (j : ℕ) → g .down ≤ j → j < g .down + length w → f ≡ frameOf j (notesOf g) → (t : ℕ) × (t < g .count) × (getD (g .frames) t 0 ≡ f) × (getD (g .places) t 0 ≡ j)
+  entry-of j l m e =
+      let p = h .stands j l (omega arith) in
+      (p .0, p .1, sym (e ∙ frame-is h j (p .0) l (omega arith) (p .1) (p .2)), p .2)
+
+  -- its place is the one that was found
+  place-of : i < g .count → (j : ℕ) → g .down ≤ j → j < g .down + length w → f ≡ frameOf j (notesOf g) → getD (g .places) i 0 ≡ j
+  place-of c j l m e =
+      let p = entry-of j l m e in
+      ap (λ (t : ℕ). getD (g .places) t 0) (one-entry h i (p .0) c (p .1) (found .is c ∙ sym (p .2))) ∙ p .3
+
+  not-queued : ((j : ℕ) → g .down ≤ j → j < g .down + length w → f ≢ frameOf j (notesOf g)) → overlay (waitingFrames generation) stored f ≡ stored f
+  unfolding waitingFrames
+  not-queued n = overlay-without _ stored f (wait-without (notesOf g) f (g .down) w n)
+
+  looked-up : (n : ℕ) → lookup f (downEntries area first (g .down) (notesOf g)) ≡ n → stored f ≡ shown card (base f) n
+  unfolding directoryOf dirOf
+  looked-up n e = overlay-lookup card _ base f ∙ ap (shown card (base f)) (lookup-byFrame f _ ∙ e)
+
+  over-other : (n j : ℕ) → f ≢ getD (g .frames) j 0 → (xs : List Note) → lookup f (downEntries area first (g .down) xs) ≡ n
+      → lookup f (downEntries area first (g .down) (noteIn (g .frames) (g .places) j ∷ xs)) ≡ n
+  over-other n j d xs e = skip area first (g .down) f _ xs d ∙ e
+
+  shows-none : i ≡ g .count → overlay (waitingFrames generation) stored f ≡ base f
+  unfolding downEntries lookup
+  shows-none e =
+      not-queued (λ j l m q. let p = entry-of j l m q in found .before (p .0) (omega (arith, p .1)) (p .2))
+      ∙ looked-up 0 (first-none (λ xs. lookup f (downEntries area first (g .down) xs) ≡ 0) (noteIn (g .frames) (g .places)) (g .frames) (g .count) f i found (over-other 0) e refl)
+
+  shows-down : i < g .count → getD (g .places) i 0 < g .down → overlay (waitingFrames generation) stored f ≡ blockAt card (ringAt area first (getD (g .places) i 0))
+  shows-down c l =
+      let n : ℕ = suc (ringAt area first (getD (g .places) i 0)) in
+      not-queued (λ j a b q. absurd (omega (arith, place-of c j a b q)))
+      ∙ looked-up n (first-found (λ xs. lookup f (downEntries area first (g .down) xs) ≡ n) (noteIn (g .frames) (g .places)) (g .frames) (g .count) f i found (over-other n) c
+      (λ xs. rw (← found .is c) (is-down area first (g .down) (noteIn (g .frames) (g .places) i) xs l)))
+
+  shows-waiting : i < g .count → g .down ≤ getD (g .places) i 0 → overlay (waitingFrames generation) stored f ≡ getD w (getD (g .places) i 0 - g .down) []
+  unfolding waitingFrames
+  shows-waiting c l =
+      let m : getD (g .places) i 0 < g .taken = h .taken i c in
+      let e : g .down + (getD (g .places) i 0 - g .down) ≡ getD (g .places) i 0 = omega arith in
+      overlay-turn (notesOf g) stored f (getD (g .places) i 0 - g .down) (g .down) w (omega arith) (rw e (frame-is h (getD (g .places) i 0) i l m c refl ∙ found .is c))
+      (λ j a b q. absurd (omega (arith, place-of c j a (omega arith) q)))
+
+-- ---- of a record
+
+-- a place of the card, and one of memory
+at-card : (s : Store) (bytes : List ℕ → List ℕ → List ℕ) (n : ℕ) → n < s .geometry .blocks → ((card memory : List ℕ) → blockAt card n ≡ bytes card memory) → Located s bytes (record { memory = false; number = n })
+unfolding foundBytes
+at-card s bytes n h e = record { there = e; in-memory = λ q. absurd (false≢true q); on-card = λ q. h }
+
+at-memory : (s : Store) (bytes : List ℕ → List ℕ → List ℕ) (n : ℕ) → n < s .frames → ((card memory : List ℕ) → blockAt memory n ≡ bytes card memory) → Located s bytes (record { memory = true; number = n })
+unfolding foundBytes
+at-memory s bytes n h e = record { there = e; in-memory = λ q. h; on-card = λ q. absurd (false≢true (sym q)) }
+
+-- committed, over home
+module _ (s : Store) {f i : ℕ} (found : First (s .committed .frames) (s .committed .count) f i) where
+  over-entry : (n j : ℕ) → f ≢ getD (s .committed .frames) j 0 → (xs : List Entry) → lookup f xs ≡ n → lookup f (entryIn (s .committed .frames) (s .committed .blocks) j ∷ xs) ≡ n
+  over-entry n j d xs e = lookup-miss f _ xs d ∙ e
+
+  pub at-home : (n : ℕ) → i ≡ s .committed .count → n ≡ f → f < s .geometry .blocks → Located s (committedBytes s f) (record { memory = false; number = n })
+  unfolding entriesOf lookup
+  at-home n e q l = at-card s (committedBytes s f) n (omega arith) (λ card memory. ap (blockAt card) q ∙ sym (overlay-lookup card (committedOf s .entries) (blockAt card) f ∙ ap (shown card (blockAt card f))
+      (first-none (λ xs. lookup f xs ≡ 0) (entryIn (s .committed .frames) (s .committed .blocks)) (s .committed .frames) (s .committed .count) f i found (over-entry 0) e refl)))
+
+  pub at-committed : Held s → (n : ℕ) → i ≢ s .committed .count → n ≡ getD (s .committed .blocks) i 0 → Located s (committedBytes s f) (record { memory = false; number = n })
+  unfolding entriesOf
+  at-committed h n d q =
+      let c : i < s .committed .count = omega (arith, found .most) in
+      let told = entries-told (s .geometry .blocks) (s .geometry .area) (s .first) (s .pages) (s .geometry .area) (committedOf s .entries) (omega arith) (h .committed) in
+      let inside = tab-all (Between (s .geometry .area) (s .first) 0 (s .pages)) (entryIn (s .committed .frames) (s .committed .blocks)) 0 (s .committed .count) (told .1 .1 .0) i (omega arith) (omega arith) in
+      let b : ℕ = getD (s .committed .blocks) i 0 in
+      at-card s (committedBytes s f) n (omega (arith, inside .1, bounds s h .area-inside)) (λ card memory. ap (blockAt card) q ∙ sym (overlay-lookup card (committedOf s .entries) (blockAt card) f ∙ ap (shown card (blockAt card f))
+      (first-found (λ xs. lookup f xs ≡ suc b) (entryIn (s .committed .frames) (s .committed .blocks)) (s .committed .frames) (s .committed .count) f i found (over-entry (suc b)) c
+      (λ xs. rw (← found .is c) (lookup-hit (entryIn (s .committed .frames) (s .committed .blocks) i) xs)))))
+
+-- a generation whose first block is `first`, and before whose waiting frames `ahead` others wait
+pub record Placed (s : Store) (g : Changes) (first ahead : ℕ) : Type 0 where
+  pub together : Held s
+  pub listed : Listed (s .geometry .area) (s .geometry .blocks) g
+  pub few : g .count ≤ 256
+  pub first-in : first ≤ s .geometry .area
+  pub inside : g .count ≢ 0 → g .taken ≤ s .geometry .area
+  pub seated : ahead + waits g ≤ s .frames
+
+pub pending-placed : (s : Store) → holdsTogether s ≡ true → Placed s (s .pending) (pendingFirst s) 0
+pending-placed s q =
+    let h = held s q in
+    record {
+      together = h;
+      listed = h .pending;
+      few = bounds s h .pending-small;
+      first-in = firsts s h .pending-in .1;
+      inside = λ z. omega (arith, size-some (s .pending .taken) (s .pending .count) (omega arith), h .half-pending);
+      seated = omega (arith, h .seated);
+    }
+
+pub current-placed : (s : Store) → holdsTogether s ≡ true → Placed s (s .current) (currentFirst s) (waits (s .pending))
+current-placed s q =
+    let h = held s q in
+    record {
+      together = h;
+      listed = h .current;
+      few = bounds s h .current-small;
+      first-in = firsts s h .current-in .1;
+      inside = λ z. omega (arith, size-some (s .current .taken) (s .current .count) (omega arith), h .half-current);
+      seated = h .seated;
+    }
+
+module _ {s : Store} {g : Changes} {first ahead : ℕ} (placed : Placed s g first ahead) {f i : ℕ} (found : First (g .frames) (g .count) f i) where
+  -- what it shows, over what lies below
+  abbrev over : (List ℕ → List ℕ → Contents) → List ℕ → List ℕ → List ℕ
+  over below card memory =
+      let gen = generationOf first (queueOf s memory ahead (waits g)) g in
+      overlay (waitingFrames gen) (overlay (storedFrames card (directoryOf (s .geometry .area) gen)) (below card memory)) f
+
+  long : (memory : List ℕ) → length (queueOf s memory ahead (waits g)) ≡ waits g
+  long memory = queue-length s memory ahead (waits g)
+
+  -- no entry
+  pub under : (below : List ℕ → List ℕ → Contents) (r : Found) → i ≡ g .count → Located s (λ card memory. below card memory f) r → Located s (over below) r
+  under below r e l = record {
+    there = λ card memory. l .there card memory ∙ sym (shows-none (placed .listed) first (queueOf s memory ahead (waits g)) (long memory) card (below card memory) f i found e);
+    in-memory = l .in-memory;
+    on-card = l .on-card;
+  }
+
+  -- an entry, and its place
+  module _ (some : i ≢ g .count) where
+    inner : i < g .count
+    inner = omega (arith, found .most)
+
+    pub index-in : i < 256
+    index-in = omega (arith, inner, placed .few)
+
+    module _ {place : ℕ} (is : place ≡ getD (g .places) i 0) where
+      place-in : (place < g .taken) × (place ≤ s .geometry .area)
+      place-in = let l = placed .listed .taken i inner in (omega arith, omega (arith, placed .inside (omega (arith, inner))))
+
+      module _ (from : ℕ) (start : from ≡ first) where
+        pub ring-in : (s .geometry .area ≤ 512) × ((from ≤ s .geometry .area) × (place ≤ s .geometry .area))
+        ring-in = (bounds s (placed .together) .area-high, (rw start (placed .first-in), place-in .1))
+
+        pub put-down : (below : List ℕ → List ℕ → Contents) (n : ℕ) → place < g .down → n ≡ ringAt (s .geometry .area) from place → Located s (over below) (record { memory = false; number = n })
+        put-down below n l e =
+            at-card s (over below) n (omega (arith, ring-high (s .geometry .area) from place (ring-in .1 .0) (place-in .1), bounds s (placed .together) .area-inside))
+            (λ card memory. ap (blockAt card) (rw (← start, ← is) e) ∙ sym (shows-down (placed .listed) first (queueOf s memory ahead (waits g)) (long memory) card (below card memory) f i found inner (rw is at l)))
+
+      pub turn-in : g .down ≤ place → ahead + (place - g .down) ≤ s .frames
+      turn-in l = omega (arith, place-in .0, placed .seated)
+
+      pub queued : (below : List ℕ → List ℕ → Contents) (n : ℕ) → g .down ≤ place → n ≡ seatAt (s .frames) (s .head) (ahead + (place - g .down)) → Located s (over below) (record { memory = true; number = n })
+      queued below n l e =
+          at-memory s (over below) n (omega (arith, seat-low (s .frames) (s .head) (ahead + (place - g .down)) (placed .together .head-low) (turn-in l)))
+          (λ card memory.
+          ap (blockAt memory) e
+          ∙ sym (shows-waiting (placed .listed) first (queueOf s memory ahead (waits g)) (long memory) card (below card memory) f i found inner (rw is at l)
+          ∙ rw (← is) (tab-getD (λ k. blockAt memory (seatAt (s .frames) (s .head) k)) ahead (waits g) (place - g .down) [] (omega (arith, place-in .0)))))
+
+-- ---- the bytes that are there
+
+pub from-memory : (r : Found) (card memory : List ℕ) → r .memory ≡ true → foundBytes r card memory ≡ blockAt memory (r .number)
+unfolding foundBytes
+from-memory r card memory e = rw e
+
+pub from-card : (r : Found) (card memory : List ℕ) → r .memory ≡ false → foundBytes r card memory ≡ blockAt card (r .number)
+unfolding foundBytes
+from-card r card memory e = rw e

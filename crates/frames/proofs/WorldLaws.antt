@@ -1,0 +1,242 @@
+-- What a call or a cut in it leaves, of what a world may hold: a card, and a record that follows the book of frames or that of zeros.
+-- Assumes nothing.
+use Prim.Native.Nat.{ℕ, zero, suc, _*_, _/_, _%_}
+use borrow.Author.Tests.{le-leb, eq-eqb, ne-eqb}
+use lib.Dec.{ltb, eqb}
+use lib.ListN.{length}
+use mathlib.Core.Bool.{true, false, _&&_, false≢true}
+use mathlib.Core.List.{List, [], _++_}
+use mathlib.Core.Logic.{⊎-elim}
+use mathlib.Core.Option.{Option, none, some}
+use mathlib.Core.Path.{_≡_, refl, ap, sym, _∙_, subst}
+use native.Mathlib.Omega.{arith}
+use Rattle.card.proofs.QuestionLaws.{none-asked, asked-yes, passed-both}
+use Rattle.card.proofs.Test.{byTest, joined}
+use Rattle.card.specs.Block.{whole}
+use Rattle.card.specs.Bytes.{All}
+use Rattle.card.specs.Question.{Question, firstNo}
+use Rattle.card.specs.Range.{Range}
+use Rattle.frames.proofs.ReadyLaws.{whole-said, ready, common-passed, common-refused}
+use Rattle.frames.specs.Promise.{Lent, meaningOf, common, FrameCall, start, change, snapshot, pageOut, advance, FrameAnswer, refused, asks, advanceAnswer, advanceWrite, advanced, doneAnswer, doneWrite, after, outcome, handedBack, FrameKept}
+use Rattle.frames.specs.Run.{told, CutBook, Asked}
+use Rattle.record.specs.Holds.{holdsTogether}
+use Rattle.record.specs.Meaning.{zeroStore}
+use Rattle.record.specs.declared.store.Store.{Store}
+use Rattle.recovery.proofs.FrameTheorem.{Stored, Follows, follows-stored, follows-card, stored-start, follows-change, follows-snapshot, follows-advance, follows-out, cut-out, cut-advance}
+use Rattle.recovery.specs.Book.{FrameBook, WholeFrame}
+use Rattle.recovery.specs.Questions.{startAsks, heldAsks, roomAsks, snapshotAsks, pageOutAsks, given, advanceAsks}
+use Rattle.recovery.specs.State.{State}
+use Rattle.recovery.specs.Step.{afterChange, afterSnapshot, Kind, page, directory, trailer, migration, header, afterKind, advanceDue, afterPageOut, startState}
+use Rattle.recovery.specs.Write.{BlockWrite, putDown, Left}
+
+-- ---- what an outcome is, done or refused
+
+module _ (c : FrameCall) (l : Lent) where
+  outcome-done : firstNo (asks c l) ≡ 0 → (outcome c l .answer ≡ doneAnswer c l) × (outcome c l .write ≡ doneWrite c l)
+  outcome-done e = let t : eqb (firstNo (asks c l)) 0 ≡ true = eq-eqb _ _ e in (rw t, rw t)
+
+  pub done-keeps : (l′ : Lent) (a : FrameAnswer) → FrameKept c l a l′ → firstNo (asks c l) ≡ 0 → (a ≡ doneAnswer c l) × (l′ .card ≡ putDown (doneWrite c l) (l .card))
+  done-keeps l′ a p e = let d = outcome-done e in (p .answer-is ∙ d .0, p .card-is ∙ ap (λ (w : Option BlockWrite). putDown w (l .card)) (d .1))
+
+  outcome-refused : (k : ℕ) → firstNo (asks c l) ≡ suc k → (outcome c l .answer ≡ refused (suc k)) × (outcome c l .write ≡ none)
+  outcome-refused k e = let t : eqb (firstNo (asks c l)) 0 ≡ false = ne-eqb (firstNo (asks c l)) 0 (λ z. omega (arith, e, z)) in (rw t (ap refused e), rw t)
+
+-- a refused call is no news to the book
+told-refused : (c : FrameCall) (n : ℕ) (b : FrameBook) → told c (refused n) b ≡ b
+unfolding told
+told-refused (start m) n b = refl
+told-refused (change ws) n b = refl
+told-refused snapshot n b = refl
+told-refused pageOut n b = refl
+told-refused advance n b = refl
+
+-- ---- questions 1 to 3
+
+-- the record of zeros has no memory frame, and question 1 wants four
+zeros-refused : (l : Lent) → l .store ≡ zeroStore → firstNo (common l) ≡ 0 → ⊥
+unfolding zeroStore
+zeros-refused l z h =
+    let r = ready (l .store) (length (l .memory)) (length (l .card)) h in
+    omega (arith, r .frames-low, ap (λ (s : Store). s .frames) z)
+
+-- question 1
+abbrev Seated : ℕ → ℕ → Type 0
+Seated memory frames = whole 4 64 memory && eqb memory (512 * frames) ≡ true
+
+common-seated : (l : Lent) → firstNo (common l) ≡ 0 → Seated (length (l .memory)) (l .store .frames)
+unfolding heldAsks
+common-seated l h = passed-both 0 (whole 4 64 (length (l .memory)) && eqb (length (l .memory)) (512 * l .store .frames)) _ h .0
+
+common-first : (l : Lent) (own : List Question) → firstNo (common l ++ own) ≡ 0 → firstNo (common l) ≡ 0
+common-first l own h = go (firstNo (common l)) refl
+  where
+    go : (n : ℕ) → firstNo (common l) ≡ n → firstNo (common l) ≡ 0
+    go zero e = e
+    go (suc k) e = absurd (omega (arith, e, h, common-refused (l .store) (length (l .memory)) (length (l .card)) own (λ z. omega (arith, e, z))))
+
+common-own : (l : Lent) (own : List Question) → firstNo (common l ++ own) ≡ 0 → firstNo own ≡ 0
+common-own l own h = sym (common-passed (l .store) (length (l .memory)) (length (l .card)) own (common-first l own h)) ∙ h
+
+-- advance is asked whether a write is due
+due-some : (o : Option Kind) → given o ≡ true → (k : Kind) × (o ≡ some k)
+due-some none e = absurd (false≢true e)
+due-some (some k) e = (k, refl)
+
+advance-due : (s : State) → firstNo (advanceAsks s) ≡ 0 → (k : Kind) × (advanceDue s ≡ some k)
+unfolding advanceAsks
+advance-due s h = due-some (advanceDue s) (passed-both 19 (given (advanceDue s)) [] h .0)
+
+-- ---- how many memory frames there are
+
+kind-frames : (k : Kind) (s : State) → afterKind k s .memoryFrames ≡ s .memoryFrames
+unfolding afterKind
+kind-frames page s = refl
+kind-frames directory s = refl
+kind-frames trailer s = refl
+kind-frames migration s = refl
+kind-frames header s = refl
+
+advanced-frames : (o : Option Kind) (s : State) → advanced o s .memoryFrames ≡ s .memoryFrames
+unfolding advanced
+advanced-frames none s = refl
+advanced-frames (some k) s = kind-frames k s
+
+out-frames : (s : State) → afterPageOut s .memoryFrames ≡ s .memoryFrames
+unfolding afterPageOut
+out-frames s = byTest (λ (x : State). x .memoryFrames ≡ s .memoryFrames) (ltb 0 (length (s .pending .waiting))) (λ t. refl) (λ t. refl)
+
+-- ---- what is held, and what is lent
+
+-- the record of zeros, or one that follows the book and passes questions 1 to 3
+pub data Standing (blocks area : ℕ) (ranges : List Range) (l : Lent) (b : FrameBook) : Type 0 where
+  idle : l .store ≡ zeroStore → Stored blocks area ranges (l .card) (b .kept) → Standing blocks area ranges l b
+  live : Follows blocks area ranges (meaningOf l) (l .card) b → firstNo (common l) ≡ 0 → Standing blocks area ranges l b
+
+module _ (blocks area : ℕ) (ranges : List Range) where
+  pub standing-stored : (l : Lent) (b : FrameBook) → Standing blocks area ranges l b → Stored blocks area ranges (l .card) (b .kept)
+  standing-stored l b (idle z k) = k
+  standing-stored l b (live f h) = follows-stored blocks area ranges (meaningOf l) (l .card) b f
+
+  pub standing-follows : (l : Lent) (b : FrameBook) → Standing blocks area ranges l b → firstNo (common l) ≡ 0 → Follows blocks area ranges (meaningOf l) (l .card) b
+  standing-follows l b (idle z k) h = absurd (zeros-refused l z h)
+  standing-follows l b (live f g) h = f
+
+  -- start is lent a card without a record, every other call what is held
+  abbrev pub LentOk : FrameCall → Lent → FrameBook → Type 0
+  LentOk (start m) l b = (l .memory ≡ m) × Stored blocks area ranges (l .card) (b .kept)
+  LentOk (change ws) l b = Standing blocks area ranges l b
+  LentOk snapshot l b = Standing blocks area ranges l b
+  LentOk pageOut l b = Standing blocks area ranges l b
+  LentOk advance l b = Standing blocks area ranges l b
+
+  -- a record that follows the book passes questions 1 to 3 if it passes 1 and 2
+  follows-common : (l : Lent) (b : FrameBook) → Follows blocks area ranges (meaningOf l) (l .card) b → Seated (length (l .memory)) (l .store .frames) → holdsTogether (l .store) ≡ true
+      → firstNo (common l) ≡ 0
+  unfolding heldAsks whole
+  follows-common l b f first second =
+      let q = follows-card blocks area ranges (meaningOf l) (l .card) b f in
+      let is : l .store .geometry .blocks ≡ blocks = f .blocks-is in
+      let long : length (l .card) ≡ 512 * l .store .geometry .blocks = omega (arith, q .0, is) in
+      let card-whole = joined _ _ (eq-eqb (length (l .card) % 512) 0 (omega (arith, long))) (joined _ _ (le-leb 11 (length (l .card) / 512) (omega (arith, q .0, q .1))) (le-leb (length (l .card) / 512) 65536 (omega (arith, q .0, q .2)))) in
+      asked-yes 1 _ _ first ∙ asked-yes 2 _ _ second ∙ asked-yes 3 _ [] (joined _ _ card-whole (eq-eqb _ _ long)) ∙ none-asked
+
+  -- ---- a call
+
+  module _ (l : Lent) (b : FrameBook) where
+    lent-stored : (c : FrameCall) → LentOk c l b → Stored blocks area ranges (l .card) (b .kept)
+    lent-stored (start m) o = o .1
+    lent-stored (change ws) o = standing-stored l b o
+    lent-stored snapshot o = standing-stored l b o
+    lent-stored pageOut o = standing-stored l b o
+    lent-stored advance o = standing-stored l b o
+
+    -- refused
+    lent-back : (c : FrameCall) → LentOk c l b → Standing blocks area ranges (handedBack c l) b
+    lent-back (start m) o = idle refl (o .1)
+    lent-back (change ws) o = o
+    lent-back snapshot o = o
+    lent-back pageOut o = o
+    lent-back advance o = o
+
+    -- done
+    own-follows : (own : List Question) → Standing blocks area ranges l b → firstNo (common l ++ own) ≡ 0 → Follows blocks area ranges (meaningOf l) (l .card) b × (firstNo own ≡ 0)
+    own-follows own o h = (standing-follows l b o (common-first l own h), common-own l own h)
+
+    lent-done : (c : FrameCall) → LentOk c l b → Asked c l → firstNo (asks c l) ≡ 0 → Follows blocks area ranges (after c l) (putDown (doneWrite c l) (l .card)) (told c (doneAnswer c l) b)
+    unfolding asks after doneWrite doneAnswer told advanced advanceWrite advanceAnswer
+    lent-done (start m) o asked h = stored-start blocks area ranges (l .card) b (o .1) m
+    lent-done (change ws) o asked h =
+        let q = own-follows (roomAsks ws (meaningOf l)) o h in
+        follows-change blocks area ranges (meaningOf l) (l .card) b (q .0) ws
+        (subst (λ (n : ℕ). All (WholeFrame n blocks) ws) (q .0 .area-is) (subst (λ (n : ℕ). All (WholeFrame (l .store .geometry .area) n) ws) (q .0 .blocks-is) asked)) (q .1)
+    lent-done snapshot o asked h =
+        let q = own-follows (snapshotAsks (meaningOf l)) o h in
+        follows-snapshot blocks area ranges (meaningOf l) (l .card) b (q .0) (q .1)
+    lent-done pageOut o asked h =
+        let q = own-follows (pageOutAsks (meaningOf l)) o h in
+        follows-out blocks area ranges (meaningOf l) (l .card) b (q .0) (q .1)
+    lent-done advance o asked h =
+        let q = own-follows (advanceAsks (meaningOf l)) o h in
+        let d = advance-due (meaningOf l) (q .1) in
+        rw (d .1) (follows-advance blocks area ranges (meaningOf l) (l .card) b (q .0) (d .0) (d .1))
+
+    own-seated : (own : List Question) (n : ℕ) → n ≡ l .store .frames → firstNo (common l ++ own) ≡ 0 → Seated (length (l .memory)) n
+    own-seated own n e h = rw e (common-seated l (common-first l own h))
+
+    lent-seated : (c : FrameCall) → LentOk c l b → firstNo (asks c l) ≡ 0 → Seated (length (l .memory)) (after c l .memoryFrames)
+    unfolding asks after startAsks startState afterChange afterSnapshot
+    lent-seated (start m) o h =
+        let w = passed-both 0 (whole 4 64 (length m)) _ h .0 in
+        rw (o .0) (sym (whole-said 4 64 (length m) (length m / 512) w) ∙ eq-eqb (length m / 512) (length m / 512) refl)
+    lent-seated (change ws) o h = own-seated (roomAsks ws (meaningOf l)) _ refl h
+    lent-seated snapshot o h = own-seated (snapshotAsks (meaningOf l)) _ refl h
+    lent-seated pageOut o h = own-seated (pageOutAsks (meaningOf l)) _ (out-frames (meaningOf l)) h
+    lent-seated advance o h = own-seated (advanceAsks (meaningOf l)) _ (advanced-frames (advanceDue (meaningOf l)) (meaningOf l)) h
+
+    -- cut off: only advance writes a header
+    lent-cut : (c : FrameCall) → LentOk c l b → firstNo (asks c l) ≡ 0 → (c′ : List ℕ) (b′ : FrameBook) → Left (doneWrite c l) (l .card) c′ → CutBook (doneWrite c l) c′ b b′
+        → Stored blocks area ranges c′ (b′ .kept)
+    unfolding asks doneWrite advanceWrite
+    lent-cut (start m) o h c′ b′ left cut = rw (left, cut) (lent-stored (start m) o)
+    lent-cut (change ws) o h c′ b′ left cut = rw (left, cut) (lent-stored (change ws) o)
+    lent-cut snapshot o h c′ b′ left cut = rw (left, cut) (lent-stored snapshot o)
+    lent-cut pageOut o h c′ b′ left cut =
+        let q = own-follows (pageOutAsks (meaningOf l)) o h in
+        let t = cut-out blocks area ranges (meaningOf l) (l .card) b (q .0) (q .1) c′ left in
+        ⊎-elim (λ r. absurd (t .1 (r .0))) (λ r. rw (r .1) (t .0)) cut
+    lent-cut advance o h c′ b′ left cut =
+        let q = own-follows (advanceAsks (meaningOf l)) o h in
+        let d = advance-due (meaningOf l) (q .1) in
+        let t = cut-advance blocks area ranges (meaningOf l) (l .card) b (q .0) (d .0) (d .1) c′ (rw (d .1) at left) in
+        ⊎-elim (λ r. rw (r .1) (t .0 (r .0))) (λ r. rw (r .1) (t .1 (r .0))) (rw (d .1) at cut)
+
+    -- ---- with its promise
+
+    module _ (c : FrameCall) (o : LentOk c l b) where
+      pub done-follows : Asked c l → (l′ : Lent) (a : FrameAnswer) → FrameKept c l a l′ → firstNo (asks c l) ≡ 0 → Follows blocks area ranges (meaningOf l′) (l′ .card) (told c a b)
+      done-follows asked l′ a p e = let d = done-keeps c l l′ a p e in rw (p .meaning e, d .0, d .1) (lent-done c o asked e)
+
+      pub called-ok : Asked c l → (l′ : Lent) (a : FrameAnswer) → FrameKept c l a l′ → Standing blocks area ranges l′ (told c a b)
+      called-ok asked l′ a p = go (firstNo (asks c l)) refl
+        where
+          go : (n : ℕ) → firstNo (asks c l) ≡ n → Standing blocks area ranges l′ (told c a b)
+          go zero e =
+              let f = done-follows asked l′ a p e in
+              let frames-is : l′ .store .frames ≡ after c l .memoryFrames = ap (λ (s : State). s .memoryFrames) (p .meaning e) in
+              live f (follows-common l′ (told c a b) f (rw (p .long, frames-is) (lent-seated c o e)) (p .sound-is e))
+          go (suc k) e =
+              let a-is : a ≡ refused (suc k) = p .answer-is ∙ outcome-refused c l k e .0 in
+              rw (a-is, told-refused c (suc k) b, p .refusal-is (omega (arith, e))) (lent-back c o)
+
+      pub cut-ok : (c′ : List ℕ) (b′ : FrameBook) → Left (outcome c l .write) (l .card) c′ → CutBook (outcome c l .write) c′ b b′ → Stored blocks area ranges c′ (b′ .kept)
+      cut-ok c′ b′ left cut = go (firstNo (asks c l)) refl
+        where
+          go : (n : ℕ) → firstNo (asks c l) ≡ n → Stored blocks area ranges c′ (b′ .kept)
+          go zero e =
+              let w : outcome c l .write ≡ doneWrite c l = outcome-done c l e .1 in
+              lent-cut c o e c′ b′ (subst (λ (x : Option BlockWrite). Left x (l .card) c′) w left) (subst (λ (x : Option BlockWrite). CutBook x c′ b b′) w cut)
+          go (suc k) e =
+              let w : outcome c l .write ≡ none = outcome-refused c l k e .1 in
+              let same : c′ ≡ l .card = subst (λ (x : Option BlockWrite). Left x (l .card) c′) w left in
+              let same-book : b′ ≡ b = subst (λ (x : Option BlockWrite). CutBook x c′ b b′) w cut in
+              rw (same, same-book) (lent-stored c o)

@@ -1,0 +1,43 @@
+-- `frames::advance::header_due` meets its contract.
+-- Assumes nothing.
+use borrow.Author.Needs.{needs}
+use native.Mathlib.Omega.{arith}
+use Rattle.frames.proofs.DueLaws.{due-migration, advance-done, due-header}
+use Rattle.frames.proofs.ReadyLaws.{ready, writable}
+use Rattle.frames.specs.Promise.{reported}
+use Rattle.recovery.specs.Step.{migration, header}
+use Rattle.frames.proofs.advance.header_due.Statement.{statement}
+use Rattle.frames.proofs.advance.header_due.Tie as tie
+
+migrate-requires : tie.Need-migrate-requires
+migrate-requires c κs =
+    let at-start = c .before .before .before .before .before in
+    (writable (at-start .args .s) _ _ (ready (at-start .args .s) _ _ (at-start .pre .0)), (c .before .if1 .taken))
+
+returns : tie.Need-returns
+unfolding reported
+returns c =
+    let at-start = c .before .before .before .before .before .before .before .before .before in
+    advance-done (at-start .args .s) _ _ (at-start .pre .0) migration _ _ (due-migration (at-start .args .s) _ (λ e. omega (arith, e, (at-start .pre .1 .1 .0))) (at-start .pre .1 .0) (at-start .pre .1 .1 .1) (c .before .before .before .before .before .if1 .taken)) ((c .before .before .before .migrate .ensures) _)
+
+header-block-requires : tie.Need-header-block-requires
+header-block-requires c κs =
+    let at-start = c .before .before .before .before .before in
+    (writable (at-start .args .s) _ _ (ready (at-start .args .s) _ _ (at-start .pre .0)), ((at-start .pre .1 .0), (at-start .pre .1 .1 .0)))
+
+returns-2 : tie.Need-returns-2
+unfolding reported
+returns-2 c =
+    let at-start = c .before .before .before .before .before .before .before .before .before in
+    advance-done (at-start .args .s) _ _ (at-start .pre .0) header _ _ (due-header (at-start .args .s) _ (λ e. omega (arith, e, (at-start .pre .1 .1 .0))) (at-start .pre .1 .0) (at-start .pre .1 .1 .1) (c .before .before .before .before .before .if1 .left)) ((c .before .before .before .header-block .ensures) _)
+
+pub header-due-spec : {M : Type 1} → statement M
+header-due-spec =
+    tie.close
+    (tie.spec
+    migrate-requires
+    (λ c. search needs)
+    returns
+    header-block-requires
+    (λ c. search needs)
+    returns-2)

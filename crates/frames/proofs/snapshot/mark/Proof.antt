@@ -1,0 +1,13 @@
+-- `frames::snapshot::mark` meets its contract.
+-- Assumes nothing.
+use borrow.Author.Needs.{needs}
+use Rattle.frames.proofs.MarkLaws.{mark-done}
+use Rattle.frames.proofs.snapshot.mark.Statement.{statement}
+use Rattle.frames.proofs.snapshot.mark.Tie as tie
+
+pub mark-spec : {M : Type 1} → statement M
+mark-spec =
+    tie.close
+    (tie.spec
+    (λ c κs. search needs)
+    (λ c. mark-done (c .before .before .args .s) (c .before .no-change .result) (c .before .no-change .ensures) (c .before .before .pre)))

@@ -1,0 +1,127 @@
+// The writes that advance makes after the waiting frames: directory, trailer, migration and header.
+use super::answer::Wrote;
+use super::place;
+use super::rising;
+use card::block;
+use card::directory;
+use card::header;
+use card::ring;
+use card::trailer;
+use card::trailer::Trailer;
+use record::list;
+use record::store;
+use record::store::Store;
+ghost use mathlib.Core.Path.{_≡_};
+ghost use mathlib.Core.Bool.{true};
+ghost use Prim.Native.Nat.{_≤_, _<_};
+ghost use Rattle.card.specs.Ring.{dirBlocks};
+ghost use Rattle.record.specs.Holds.{holdsTogether};
+ghost use Rattle.record.specs.Meaning.{waits};
+ghost use Rattle.recovery.specs.Step.{directory, trailer, migration, header, afterKind};
+ghost use Rattle.frames.specs.Step.{KindDone, StepDone, Writable};
+
+// One block more of the pending directory and trailer is down.
+fn tail_down(s: Store) -> Store
+    requires { ⌜ (holdsTogether s ≡ true) × ((waits (s .pending) ≡ 0) × ((0 < s .pending .count) × (s .tail ≤ dirBlocks (s .pending .count)))) ⌝ }
+    ensures { λ t. ⌜ StepDone (afterKind directory) s t ⌝ }
+{
+    let next = s.tail + 1;
+    let mut t = s;
+    t.tail = next;
+    t
+}
+
+// D: the next block of the pending directory.
+pub fn directory_block(s: Store, card: &mut [u8]) -> Wrote
+    requires { ⌜ Writable s (now card) × ((waits (s .pending) ≡ 0) × (s .tail < dirBlocks (s .pending .count))) ⌝ }
+    ensures { λ r. ⌜ KindDone directory s (now (card .entry)) r (now (card .exit)) ⌝ }
+{
+    let first = place::pending_first(s);
+    let g = s.pending;
+    let d = rising::sorted(s.geometry.area, first, g);
+    let bytes = directory::block(&d.frames, &d.blocks, d.count, s.tail);
+    let to = ring::at(s.geometry.area, first, s.pending.taken + s.tail);
+    block::put(card, to, &bytes);
+    let t = tail_down(s);
+    Wrote {
+        block: to,
+        store: t,
+    }
+}
+
+// T: the pending trailer.
+pub fn trailer_block(s: Store, card: &mut [u8]) -> Wrote
+    requires { ⌜ Writable s (now card) × ((waits (s .pending) ≡ 0) × ((0 < s .pending .count) × (s .tail ≡ dirBlocks (s .pending .count)))) ⌝ }
+    ensures { λ r. ⌜ KindDone trailer s (now (card .entry)) r (now (card .exit)) ⌝ }
+{
+    let first = place::pending_first(s);
+    let x = Trailer {
+        commit: s.commit + 1,
+        first: first,
+        pages: s.pending.taken,
+        entries: s.pending.count,
+    };
+    let bytes = trailer::block(x);
+    let to = ring::at(s.geometry.area, first, s.pending.taken + s.tail);
+    block::put(card, to, &bytes);
+    let t = tail_down(s);
+    Wrote {
+        block: to,
+        store: t,
+    }
+}
+
+// M: the next committed entry is copied home.
+pub fn migrate(s: Store, card: &mut [u8]) -> Wrote
+    requires { ⌜ Writable s (now card) × (s .migrated < s .committed .count) ⌝ }
+    ensures { λ r. ⌜ KindDone migration s (now (card .entry)) r (now (card .exit)) ⌝ }
+{
+    let i = s.migrated;
+    let d = s.committed;
+    let home = list::at(&d.frames, i);
+    let from = list::at(&d.blocks, i);
+    block::copy(card, from, home);
+    let next = i + 1;
+    let mut t = s;
+    t.migrated = next;
+    Wrote {
+        block: home,
+        store: t,
+    }
+}
+
+// The pending generation is the committed one.
+fn commit(s: Store) -> Store
+    requires { ⌜ (holdsTogether s ≡ true) × ((waits (s .pending) ≡ 0) × (0 < s .pending .count)) ⌝ }
+    ensures { λ t. ⌜ StepDone (afterKind header) s t ⌝ }
+{
+    let first = place::pending_first(s);
+    let g = s.pending;
+    let d = rising::sorted(s.geometry.area, first, g);
+    let e = store::no_change();
+    let next = s.commit + 1;
+    let mut t = s;
+    t.commit = next;
+    t.first = first;
+    t.pages = g.taken;
+    t.committed = d;
+    t.migrated = 0;
+    t.pending = e;
+    t.tail = 0;
+    t
+}
+
+// H: the header names the new commit number and its trailer.
+pub fn header_block(s: Store, card: &mut [u8]) -> Wrote
+    requires { ⌜ Writable s (now card) × ((waits (s .pending) ≡ 0) × (0 < s .pending .count)) ⌝ }
+    ensures { λ r. ⌜ KindDone header s (now (card .entry)) r (now (card .exit)) ⌝ }
+{
+    let first = place::pending_first(s);
+    let end = s.pending.taken + (s.pending.count + 63) / 64;
+    let last = ring::at(s.geometry.area, first, end);
+    let g = s.geometry;
+    let bytes = header::block(s.commit + 1, last, g.area, &g.ranges, g.count);
+    block::put(card, 0, &bytes);
+    let t = commit(s);
+    Wrote { block: 0, store: t }
+}
