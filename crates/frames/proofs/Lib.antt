@@ -10,6 +10,7 @@ pub mod LoadLaws
 pub mod NeedLaws
 pub mod ChangeLaws
 pub mod KeepLaws
+pub mod EachLaws
 pub mod CallLaws
 pub mod DueLaws
 pub mod WorldLaws

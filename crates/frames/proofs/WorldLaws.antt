@@ -216,14 +216,16 @@ module _ (blocks area : ℕ) (ranges : List Range) where
       pub done-follows : Asked c l → (l′ : Lent) (a : FrameAnswer) → FrameKept c l a l′ → firstNo (asks c l) ≡ 0 → Follows blocks area ranges (meaningOf l′) (l′ .card) (told c a b)
       done-follows asked l′ a p e = let d = done-keeps c l l′ a p e in rw (p .meaning e, d .0, d .1) (lent-done c o asked e)
 
+      pub done-common : Asked c l → (l′ : Lent) (a : FrameAnswer) → FrameKept c l a l′ → firstNo (asks c l) ≡ 0 → firstNo (common l′) ≡ 0
+      done-common asked l′ a p e =
+          let frames-is : l′ .store .frames ≡ after c l .memoryFrames = ap (λ (s : State). s .memoryFrames) (p .meaning e) in
+          follows-common l′ (told c a b) (done-follows asked l′ a p e) (rw (p .long, frames-is) (lent-seated c o e)) (p .sound-is e)
+
       pub called-ok : Asked c l → (l′ : Lent) (a : FrameAnswer) → FrameKept c l a l′ → Standing blocks area ranges l′ (told c a b)
       called-ok asked l′ a p = go (firstNo (asks c l)) refl
         where
           go : (n : ℕ) → firstNo (asks c l) ≡ n → Standing blocks area ranges l′ (told c a b)
-          go zero e =
-              let f = done-follows asked l′ a p e in
-              let frames-is : l′ .store .frames ≡ after c l .memoryFrames = ap (λ (s : State). s .memoryFrames) (p .meaning e) in
-              live f (follows-common l′ (told c a b) f (rw (p .long, frames-is) (lent-seated c o e)) (p .sound-is e))
+          go zero e = live (done-follows asked l′ a p e) (done-common asked l′ a p e)
           go (suc k) e =
               let a-is : a ≡ refused (suc k) = p .answer-is ∙ outcome-refused c l k e .0 in
               rw (a-is, told-refused c (suc k) b, p .refusal-is (omega (arith, e))) (lent-back c o)

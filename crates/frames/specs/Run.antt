@@ -11,12 +11,12 @@ use mathlib.Core.Path.{_≡_}
 use Rattle.card.specs.Block.{blockAt, whole}
 use Rattle.card.specs.Bytes.{All}
 use Rattle.card.specs.Header.{headerOn}
-use Rattle.card.specs.Question.{firstNo}
-use Rattle.frames.specs.Promise.{Lent, lent, common, FrameCall, start, change, snapshot, pageOut, advance, FrameAnswer, refused, done, wrote, outcome, FrameKept, Loads}
-use Rattle.record.specs.Holds.{holdsTogether}
+use Rattle.card.specs.Question.{firstNo, headerRanges}
+use Rattle.frames.specs.Promise.{Lent, lent, meaningOf, common, FrameCall, start, change, snapshot, pageOut, advance, FrameAnswer, refused, done, wrote, outcome, FrameKept, Loads}
 use Rattle.record.specs.Meaning.{zeroStore}
 use Rattle.recovery.specs.Book.{FrameBook, bookChange, bookSnapshot, bookStart, bookHeader, bookWrote, WholeFrame}
 use Rattle.recovery.specs.Questions.{startAsks}
+use Rattle.recovery.specs.Sound.{Sound}
 use Rattle.recovery.specs.State.{readFrame}
 use Rattle.recovery.specs.Step.{startState}
 use Rattle.recovery.specs.Write.{BlockWrite, Left, Reached}
@@ -99,18 +99,26 @@ firstWorld m card = record {
 abbrev pub HomeFrame : List ℕ → ℕ → Type 0
 HomeFrame card f = (headerOn (blockAt card 0) .area < f) × (f < length card / 512)
 
--- after any list of calls and cuts a start accepts, writes nothing, and shows what the book keeps
+-- A record that an accepted start or a later call handed back: it passes questions 1 to 3, its meaning is sound, and its geometry is the first card's.
+pub record Serves (card : List ℕ) (l : Lent) : Type 0 where
+  pub passes : firstNo (common l) ≡ 0
+  pub sound : Sound (meaningOf l)
+  pub blocks-is : meaningOf l .blocks ≡ length card / 512
+  pub area-is : meaningOf l .area ≡ headerOn (blockAt card 0) .area
+  pub ranges-is : meaningOf l .ranges ≡ headerRanges (headerOn (blockAt card 0))
+
+-- after any list of calls and cuts a start accepts, writes nothing, and loads show what the book keeps
 abbrev pub FramesRecover : Type 0
 FramesRecover = (m₀ card : List ℕ) → firstNo (startAsks m₀ card) ≡ 0 → (w : FrameWorld) → FrameRun (firstWorld m₀ card) w
     → (m : List ℕ) → whole 4 64 (length m) ≡ true → (a : FrameAnswer) (l : Lent) → FrameKept (start m) (startLent m (w .card)) a l
-    → (a ≡ done) × (l .card ≡ w .card) × (holdsTogether (l .store) ≡ true) × ((f : ℕ) (x : List ℕ) → HomeFrame card f → Loads l f x → x ≡ w .book .kept f)
+    → (a ≡ done) × (l .card ≡ w .card) × Serves card l × ((f : ℕ) (x : List ℕ) → HomeFrame card f → Loads l f x → x ≡ w .book .kept f)
 
--- and where a record is held that passes questions 1 to 3, loads show what is present
+-- where a record is held that passes questions 1 to 3, loads show what is present
 abbrev pub FramesPresent : Type 0
 FramesPresent = (m₀ card : List ℕ) → firstNo (startAsks m₀ card) ≡ 0 → (w : FrameWorld) → FrameRun (firstWorld m₀ card) w
     → (l : Lent) → w .held ≡ some l → firstNo (common l) ≡ 0 → (f : ℕ) (x : List ℕ) → HomeFrame card f → Loads l f x → x ≡ w .book .present f
 
--- A record that an accepted start or a later call handed back passes questions 1 to 3, and its meaning is sound. The one of a refused start is of zeros.
+-- what is held serves, unless it is the record of zeros that a refused start handed out; its card is the world's
 abbrev pub FramesHold : Type 0
 FramesHold = (m₀ card : List ℕ) → firstNo (startAsks m₀ card) ≡ 0 → (w : FrameWorld) → FrameRun (firstWorld m₀ card) w
-    → (l : Lent) → w .held ≡ some l → ((l .store ≡ zeroStore) ⊎ (firstNo (common l) ≡ 0)) × (l .card ≡ w .card)
+    → (l : Lent) → w .held ≡ some l → ((l .store ≡ zeroStore) ⊎ Serves card l) × (l .card ≡ w .card)

@@ -1,20 +1,24 @@
 -- What the parts of calls promise.
 -- Assumes nothing.
 use Prim.Native.Nat.{ℕ, _+_, _*_, _≤_, _<_}
-use lib.ListN.{length, set}
+use lib.ListN.{length, set, getD}
 use mathlib.Core.Bool.{true, false, cond}
 use mathlib.Core.List.{List, [], _∷_}
 use mathlib.Core.Path.{_≡_}
 use Rattle.card.specs.Block.{blockAt, putBlock, whole}
+use Rattle.card.specs.Bytes.{tabulate}
 use Rattle.card.specs.Checkpoint.{Recovered}
 use Rattle.card.specs.Directory.{entriesOf}
 use Rattle.card.specs.Question.{firstNo}
 use Rattle.card.specs.declared.checkpoint.Checkpoint.{Checkpoint}
 use Rattle.card.specs.declared.directory.Directory.{Directory}
+use Rattle.frames.specs.Promise.{lent, commonAsks, change, FrameKept, numbered}
+use Rattle.frames.specs.declared.answer.Done.{Done}
 use Rattle.frames.specs.declared.answer.Found.{Found}
 use Rattle.frames.specs.declared.answer.Need.{Need}
 use Rattle.frames.specs.declared.answer.Wrote.{Wrote}
 use Rattle.record.specs.Holds.{holdsTogether}
+use Rattle.record.specs.Lists.{once, allWithin}
 use Rattle.record.specs.Meaning.{notesOf, generationOf, committedOf, stateOf}
 use Rattle.record.specs.declared.store.Changes.{Changes}
 use Rattle.record.specs.declared.store.Store.{Store}
@@ -102,6 +106,32 @@ pub record ChangeDone (s : Store) (memory : List ℕ) (w : FrameBytes) (t : Stor
   pub meaning : stateOf t after ≡ afterChange (w ∷ []) (stateOf s memory)
   pub together : holdsTogether t ≡ true
   pub long : length after ≡ length memory
+
+-- frames with their bytes: their names, and 512 bytes for each in turn
+abbrev pub framesWith : List ℕ → List ℕ → List FrameBytes
+framesWith names bytes = tabulate (λ k. record { frame = getD names k 0; bytes = blockAt bytes k }) 0 (length names)
+
+-- what a change of several frames may rest on: questions 1 to 3 are passed, and home frames are named, each once
+pub record Changing (s : Store) (memory names bytes : List ℕ) : Type 0 where
+  pub together : holdsTogether s ≡ true
+  pub memory-long : length memory ≡ 512 * s .frames
+  pub memory-few : s .frames ≤ 64
+  pub card-few : s .geometry .blocks ≤ 65536
+  pub few : length names ≤ 256
+  pub named-once : once names ≡ true
+  pub home : allWithin (s .geometry .area + 1) (s .geometry .blocks) names ≡ true
+  pub bytes-long : length bytes ≡ 512 * length names
+
+-- all of them, where there is room
+pub record AllChanged (s : Store) (memory names bytes : List ℕ) (t : Store) (after : List ℕ) : Type 0 where
+  pub meaning : stateOf t after ≡ afterChange (framesWith names bytes) (stateOf s memory)
+  pub together : holdsTogether t ≡ true
+  pub long : length after ≡ length memory
+
+-- the promise of a change, whatever card the record is lent with
+abbrev pub ChangeKept : Store → List ℕ → List ℕ → List ℕ → Done → List ℕ → Type 0
+ChangeKept s memory names bytes r after = (card : List ℕ) → firstNo (commonAsks s (length memory) (length card)) ≡ 0
+    → FrameKept (change (framesWith names bytes)) (lent s memory card) (numbered (r .answer)) (lent (r .store) after card)
 
 -- one entry more, at the next place
 pub record Entered (g : Changes) (f : ℕ) (r : Changes) : Type 0 where

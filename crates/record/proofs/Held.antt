@@ -4,18 +4,18 @@ use Prim.Native.Nat.{ℕ, _+_, _≤_, _<_}
 use borrow.Author.Tests.{ltb-true, leb-true, eqb-true, eqb-false, lt-ltb, le-leb, eq-eqb, ne-eqb}
 use lib.Dec.{leb, ltb, eqb}
 use lib.ListN.{getD}
-use mathlib.Core.Bool.{true, cond, _&&_}
-use mathlib.Core.Logic.{_≢_}
+use mathlib.Core.Bool.{true, cond}
+use mathlib.Core.Logic.{_≢_, ⊎-elim}
 use mathlib.Core.Path.{_≡_, refl}
-use native.Mathlib.Decide.{ℕ-discrete}
 use native.Mathlib.Omega.{arith}
 use Rattle.card.proofs.RangeLaws.{geometry-tells}
 use Rattle.card.proofs.RingLaws.{size-some}
-use Rattle.card.proofs.Test.{byTest, both, joined}
+use Rattle.card.proofs.Test.{byTest, both, joined, le-or-lt}
 use Rattle.card.specs.Directory.{entriesOf}
 use Rattle.card.specs.Question.{entriesFit}
 use Rattle.card.specs.Range.{rangesOf, geometryFits}
-use Rattle.card.specs.Ring.{half, generationSize}
+use Rattle.card.specs.Ring.{half}
+use Rattle.record.proofs.HoldTests.{entries-small, sizes-tell, none-told, some-told, committed-told, down-told, no-pending, any-pending, few-pending, current-told}
 use Rattle.record.proofs.Tests.{within-each, each-within, once-apart, apart-once, alone-stands, stands-alone, alone-each, each-alone}
 use Rattle.record.specs.Holds.{geometryHolds, committedHolds, pendingHolds, currentHolds, sizesHold, tailFor, orderHolds, memoryHolds, countsHold, spansHold, changesHold, holdsTogether}
 use Rattle.record.specs.Lists.{cells, once, allWithin}
@@ -95,60 +95,14 @@ pub record Bounds (s : Store) : Type 0 where
   pub area-high : s .geometry .area ≤ 512
   pub area-inside : s .geometry .area < s .geometry .blocks
   pub committed-small : s .committed .count ≤ 256
-  pub committed-pages : s .committed .count ≢ 0 → s .pages ≤ 256
   pub pending-small : s .pending .count ≤ 256
   pub pending-taken : s .pending .taken ≤ 256
   pub current-small : s .current .count ≤ 256
-  pub current-taken : s .current .count ≢ 0 → s .current .taken ≤ 256
-
--- ---- the tests of counts, by their cases
-
-module _ (commit area first p e : ℕ) where
-  none-told : committedHolds commit area first p e ≡ true → commit ≡ 0 → (e ≡ 0) × (p ≡ 0) × (first ≡ 1)
-  unfolding committedHolds
-  none-told h z =
-      let a = both (eqb e 0) (eqb p 0 && eqb first 1) (rw (eq-eqb commit 0 z) at h) in
-      let b = both (eqb p 0) _ (a .1) in
-      (eqb-true _ _ (a .0), eqb-true _ _ (b .0), eqb-true _ _ (b .1))
-
-  some-told : committedHolds commit area first p e ≡ true → 0 < commit → (1 ≤ e) × (e ≤ p) × (1 ≤ first) × (first ≤ area)
-  unfolding committedHolds
-  some-told h z =
-      let a = both (leb 1 e) (leb e p && (leb 1 first && leb first area)) (rw (ne-eqb commit 0 (omega arith)) at h) in
-      let b = both (leb e p) _ (a .1) in
-      let c = both (leb 1 first) _ (b .1) in
-      (leb-true _ _ (a .0), leb-true _ _ (b .0), leb-true _ _ (c .0), leb-true _ _ (c .1))
-
-  -- what holds in either case
-  committed-told : committedHolds commit area first p e ≡ true → 1 ≤ area → (1 ≤ first) × (first ≤ area) × (e ≤ p)
-  committed-told h l = go (ℕ-discrete commit 0)
-    where
-      go : Dec (commit ≡ 0) → (1 ≤ first) × (first ≤ area) × (e ≤ p)
-      go (yes z) = let n = none-told h z in (omega (arith, n .2), omega (arith, n .2), omega (arith, n .0))
-      go (no z) = let n = some-told h (omega arith) in (n .2, n .3, n .1)
-
-module _ (commit p e down : ℕ) (h : pendingHolds commit p e down ≡ true) where
-  pending-told : (down ≤ p) × (cond (eqb e 0) (eqb p 0) (leb e p && ltb commit 4294967295) ≡ true)
-  unfolding pendingHolds
-  pending-told = let a = both (leb down p) _ h in (leb-true _ _ (a .0), a .1)
-
-  no-pending : e ≡ 0 → p ≡ 0
-  no-pending z = eqb-true p 0 (rw (eq-eqb e 0 z) at (pending-told .1))
-
-  any-pending : 0 < e → (e ≤ p) × (commit < 4294967295)
-  any-pending l = let a = both (leb e p) (ltb commit 4294967295) (rw (ne-eqb e 0 (omega arith)) at (pending-told .1)) in (leb-true _ _ (a .0), ltb-true _ _ (a .1))
-
-  few-pending : e ≤ p
-  few-pending = go (ℕ-discrete e 0)
-    where
-      go : Dec (e ≡ 0) → e ≤ p
-      go (yes z) = omega arith
-      go (no z) = any-pending (omega arith) .0
 
 -- ---- question 2
 
 pub held : (s : Store) → holdsTogether s ≡ true → Held s
-unfolding holdsTogether countsHold geometryHolds currentHolds spansHold sizesHold orderHolds memoryHolds
+unfolding holdsTogether countsHold geometryHolds spansHold orderHolds memoryHolds
 held s h =
     let area = s .geometry .area in
     let blocks = s .geometry .blocks in
@@ -159,12 +113,10 @@ held s h =
     let a = both (geometryFits blocks area (rangesOf (s .geometry .ranges) (s .geometry .count))) _ (counts .0) in
     let b = both (committedHolds (s .commit) area (s .first) (s .pages) (s .committed .count)) _ (a .1) in
     let c = both (pendingHolds (s .commit) (s .pending .taken) (s .pending .count) (s .pending .down)) _ (b .1) in
-    let d = both (leb (s .current .count) (s .current .taken)) _ (c .1) in
+    let d = current-told (s .current .taken) (s .current .count) (s .current .down) (c .1) in
     let sizes = both (sizesHold area (committedSizeOf s) (sizeOf (s .pending)) (sizeOf (s .current))) _ (spans .0) in
     let rest = both (orderHolds (s .migrated) (s .committed .count) (s .tail) (s .pending .count) (waits (s .pending))) _ (sizes .1) in
-    let f = both (leb (committedSizeOf s) (half area)) _ (sizes .0) in
-    let g = both (leb (sizeOf (s .pending)) (half area)) _ (f .1) in
-    let k = both (leb (sizeOf (s .current)) (half area)) _ (g .1) in
+    let k = sizes-tell area (committedSizeOf s) (sizeOf (s .pending)) (sizeOf (s .current)) (sizes .0) in
     let m = both (leb (s .migrated) (s .committed .count)) _ (rest .0) in
     let n = both (leb (s .tail) (tailFor (s .pending .count))) _ (m .1) in
     let o = both (ltb (s .head) (s .frames)) _ (rest .1) in
@@ -179,14 +131,14 @@ held s h =
       committed-few = p .2;
       commit-limit = λ l. any-pending (s .commit) (s .pending .taken) (s .pending .count) (s .pending .down) (c .0) l .1;
       pending-few = few-pending (s .commit) (s .pending .taken) (s .pending .count) (s .pending .down) (c .0);
-      pending-down = pending-told (s .commit) (s .pending .taken) (s .pending .count) (s .pending .down) (c .0) .0;
+      pending-down = down-told (s .commit) (s .pending .taken) (s .pending .count) (s .pending .down) (c .0);
       none-pending = no-pending (s .commit) (s .pending .taken) (s .pending .count) (s .pending .down) (c .0);
-      current-few = leb-true _ _ (d .0);
-      current-down = leb-true _ _ (d .1);
-      half-committed = leb-true _ _ (f .0);
-      half-pending = leb-true _ _ (g .0);
-      half-current = leb-true _ _ (k .0);
-      room = leb-true _ _ (k .1);
+      current-few = d .1;
+      current-down = d .0;
+      half-committed = k .half-a;
+      half-pending = k .half-b;
+      half-current = k .half-c;
+      room = k .all;
       migrated-within = leb-true _ _ (m .0);
       tail-within = leb-true _ _ (n .0);
       tail-after = λ l. eqb-true (waits (s .pending)) 0 (rw (ne-eqb (s .tail) 0 (omega arith)) at (n .1));
@@ -234,35 +186,23 @@ together s h =
 
 -- ---- bounds
 
--- a generation of a size that fits
-small : (p e area : ℕ) → e ≤ p → generationSize p e ≤ half area → area ≤ 512 → (e ≤ 256) × (e ≢ 0 → p ≤ 256)
-small p e area few fits high = (go (ℕ-discrete e 0), some)
-  where
-    some : e ≢ 0 → p ≤ 256
-    some z = omega (arith, size-some p e (omega arith))
-
-    go : Dec (e ≡ 0) → e ≤ 256
-    go (yes z) = omega arith
-    go (no z) = omega (arith, some z)
-
 pub bounds : (s : Store) → Held s → Bounds s
 bounds s h =
     let g = geometry-tells _ _ _ (h .geometry) in
-    let a = small (s .pages) (s .committed .count) (s .geometry .area) (h .committed-few) (h .half-committed) (g .area-high) in
-    let b = small (s .pending .taken) (s .pending .count) (s .geometry .area) (h .pending-few) (h .half-pending) (g .area-high) in
-    let c = small (s .current .taken) (s .current .count) (s .geometry .area) (h .current-few) (h .half-current) (g .area-high) in
+    let most = half (s .geometry .area) in
+    let high : s .geometry .area ≤ 512 = g .area-high in
+    let a : s .committed .count ≤ most = entries-small (s .pages) (s .committed .count) most (h .committed-few) (h .half-committed) in
+    let b : s .pending .count ≤ most = entries-small (s .pending .taken) (s .pending .count) most (h .pending-few) (h .half-pending) in
+    let c : s .current .count ≤ most = entries-small (s .current .taken) (s .current .count) most (h .current-few) (h .half-current) in
     record {
       area-low = g .area-low;
-      area-high = g .area-high;
+      area-high = high;
       area-inside = omega (arith, g .full);
-      committed-small = a .0;
-      committed-pages = a .1;
-      pending-small = b .0;
-      pending-taken = go b (ℕ-discrete (s .pending .count) 0);
-      current-small = c .0;
-      current-taken = c .1;
+      committed-small = omega arith;
+      pending-small = omega arith;
+      pending-taken = ⊎-elim
+          (λ l. omega (arith, size-some (s .pending .taken) (s .pending .count) l, h .half-pending))
+          (λ l. let z : s .pending .taken ≡ 0 = h .none-pending (omega (arith, l)) in omega (arith, z))
+          (le-or-lt 1 (s .pending .count));
+      current-small = omega arith;
     }
-  where
-    go : (s .pending .count ≤ 256) × (s .pending .count ≢ 0 → s .pending .taken ≤ 256) → Dec (s .pending .count ≡ 0) → s .pending .taken ≤ 256
-    go b (yes z) = omega (arith, h .none-pending z)
-    go b (no z) = b .1 z

@@ -1,15 +1,15 @@
 -- What parts of question 2 tell before the rest of it is asked: bounds for the code that asks it.
 -- Assumes nothing.
-use Prim.Native.Nat.{ℕ, _+_, _-_, _≤_}
-use borrow.Author.Tests.{leb-true, eqb-true, le-leb, lt-leb, eq-eqb}
+use Prim.Native.Nat.{ℕ, _+_, _-_, _≤_, _<_}
+use borrow.Author.Tests.{ltb-true, leb-true, eqb-true, le-leb, lt-leb, eq-eqb, ne-eqb}
 use lib.Dec.{leb, eqb}
-use mathlib.Core.Bool.{Bool, true}
+use mathlib.Core.Bool.{true}
 use mathlib.Core.Logic.{⊎-elim}
 use mathlib.Core.Path.{_≡_, sym, _∙_}
 use native.Mathlib.Omega.{arith}
 use Rattle.card.proofs.RangeLaws.{geometry-tells}
 use Rattle.card.proofs.RingLaws.{size-some}
-use Rattle.card.proofs.Test.{byTest, both, le-or-lt}
+use Rattle.card.proofs.Test.{both, le-or-lt}
 use Rattle.card.specs.Range.{rangesOf}
 use Rattle.card.specs.Ring.{half, generationSize}
 use Rattle.record.specs.Holds.{geometryHolds, committedHolds, pendingHolds, currentHolds, sizesHold, countsHold, spansHold}
@@ -37,6 +37,7 @@ pub record Sizes (area a b c : ℕ) : Type 0 where
   pub half-a : a ≤ half area
   pub half-b : b ≤ half area
   pub half-c : c ≤ half area
+  pub all : a + b + c ≤ area
 
 pub sizes-tell : (area a b c : ℕ) → sizesHold area a b c ≡ true → Sizes area a b c
 unfolding sizesHold
@@ -44,34 +45,52 @@ sizes-tell area a b c e =
     let p = both (leb a (half area)) _ e in
     let q = both (leb b (half area)) _ (p .1) in
     let r = both (leb c (half area)) _ (q .1) in
-    record { half-a = leb-true a (half area) (p .0); half-b = leb-true b (half area) (q .0); half-c = leb-true c (half area) (r .0) }
+    record { half-a = leb-true a (half area) (p .0); half-b = leb-true b (half area) (q .0); half-c = leb-true c (half area) (r .0); all = leb-true (a + b + c) area (r .1) }
 
 -- ---- counts
 
-committed-tells : (commit area first p e : ℕ) → 8 ≤ area → committedHolds commit area first p e ≡ true → (first ≤ area) × (e ≤ p)
-unfolding committedHolds
-committed-tells commit area first p e low = byTest (λ (t : Bool). t ≡ true → (first ≤ area) × (e ≤ p)) (eqb commit 0)
-    (λ z h.
-    let a = both (eqb e 0) _ h in
-    let b = both (eqb p 0) _ (a .1) in
-    omega (arith, eqb-true e 0 (a .0), eqb-true first 1 (b .1)))
-    (λ z h.
-    let a = both (leb 1 e) _ h in
-    let b = both (leb e p) _ (a .1) in
-    let c = both (leb 1 first) _ (b .1) in
-    (leb-true first area (c .1), leb-true e p (b .0)))
+module _ (commit area first p e : ℕ) (h : committedHolds commit area first p e ≡ true) where
+  pub none-told : commit ≡ 0 → (e ≡ 0) × (p ≡ 0) × (first ≡ 1)
+  unfolding committedHolds
+  none-told z =
+      let a = both (eqb e 0) _ (rw (eq-eqb commit 0 z) at h) in
+      let b = both (eqb p 0) _ (a .1) in
+      (eqb-true _ _ (a .0), eqb-true _ _ (b .0), eqb-true _ _ (b .1))
 
-pending-tells : (commit p e down : ℕ) → pendingHolds commit p e down ≡ true → (down ≤ p) × (e ≤ p)
-unfolding pendingHolds
-pending-tells commit p e down h =
-    let a = both (leb down p) _ h in (
-      leb-true down p (a .0),
-      byTest (λ (t : Bool). t ≡ true → e ≤ p) (eqb e 0) (λ z k. omega (arith, eqb-true e 0 z)) (λ z k. leb-true e p (both (leb e p) _ k .0)) (a .1),
-    )
+  pub some-told : 0 < commit → (1 ≤ e) × (e ≤ p) × (1 ≤ first) × (first ≤ area)
+  unfolding committedHolds
+  some-told z =
+      let a = both (leb 1 e) _ (rw (ne-eqb commit 0 (omega arith)) at h) in
+      let b = both (leb e p) _ (a .1) in
+      let c = both (leb 1 first) _ (b .1) in
+      (leb-true _ _ (a .0), leb-true _ _ (b .0), leb-true _ _ (c .0), leb-true _ _ (c .1))
 
-current-tells : (p e down : ℕ) → currentHolds p e down ≡ true → (down ≤ p) × (e ≤ p)
+  -- in either case
+  pub committed-told : 1 ≤ area → (1 ≤ first) × (first ≤ area) × (e ≤ p)
+  committed-told l = ⊎-elim
+      (λ z. let n = none-told (omega (arith, z)) in (omega (arith, n .2), omega (arith, n .2), omega (arith, n .0)))
+      (λ z. let n = some-told z in (n .2, n .3, n .1))
+      (le-or-lt commit 0)
+
+module _ (commit p e down : ℕ) (h : pendingHolds commit p e down ≡ true) where
+  pub down-told : down ≤ p
+  unfolding pendingHolds
+  down-told = leb-true _ _ (both (leb down p) _ h .0)
+
+  pub no-pending : e ≡ 0 → p ≡ 0
+  unfolding pendingHolds
+  no-pending z = eqb-true p 0 (rw (eq-eqb e 0 z) at (both (leb down p) _ h .1))
+
+  pub any-pending : 0 < e → (e ≤ p) × (commit < 4294967295)
+  unfolding pendingHolds
+  any-pending l = let a = both (leb e p) _ (rw (ne-eqb e 0 (omega arith)) at (both (leb down p) _ h .1)) in (leb-true _ _ (a .0), ltb-true _ _ (a .1))
+
+  pub few-pending : e ≤ p
+  few-pending = ⊎-elim (λ z. omega (arith, z)) (λ z. any-pending z .0) (le-or-lt e 0)
+
+pub current-told : (p e down : ℕ) → currentHolds p e down ≡ true → (down ≤ p) × (e ≤ p)
 unfolding currentHolds
-current-tells p e down h = let a = both (leb e p) _ h in (leb-true down p (a .1), leb-true e p (a .0))
+current-told p e down h = let a = both (leb e p) _ h in (leb-true down p (a .1), leb-true e p (a .0))
 
 pub record Counts (s : Store) : Type 0 where
   pub area : s .geometry .area ≤ 512
@@ -89,15 +108,15 @@ counts-tell s e =
     let b = both (committedHolds (s .commit) (s .geometry .area) (s .first) (s .pages) (s .committed .count)) _ (a .1) in
     let c = both (pendingHolds (s .commit) (s .pending .taken) (s .pending .count) (s .pending .down)) _ (b .1) in
     let g = geometry-tells (s .geometry .blocks) (s .geometry .area) (rangesOf (s .geometry .ranges) (s .geometry .count)) (a .0) in
-    let committed = committed-tells (s .commit) (s .geometry .area) (s .first) (s .pages) (s .committed .count) (g .area-low) (b .0) in
-    let pending = pending-tells (s .commit) (s .pending .taken) (s .pending .count) (s .pending .down) (c .0) in
-    let current = current-tells (s .current .taken) (s .current .count) (s .current .down) (c .1) in
+    let low : 8 ≤ s .geometry .area = g .area-low in
+    let committed = committed-told (s .commit) (s .geometry .area) (s .first) (s .pages) (s .committed .count) (b .0) (omega arith) in
+    let current = current-told (s .current .taken) (s .current .count) (s .current .down) (c .1) in
     record {
       area = g .area-high;
-      first = committed .0;
-      committed = committed .1;
-      pending = pending .1;
-      pending-down = pending .0;
+      first = committed .1;
+      committed = committed .2;
+      pending = few-pending (s .commit) (s .pending .taken) (s .pending .count) (s .pending .down) (c .0);
+      pending-down = down-told (s .commit) (s .pending .taken) (s .pending .count) (s .pending .down) (c .0);
       current = current .1;
       current-down = current .0;
     }
