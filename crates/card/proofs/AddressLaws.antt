@@ -5,10 +5,10 @@ use borrow.Author.Tests.{ltb-true, leb-true}
 use lib.Dec.{leb, ltb}
 use mathlib.Core.Bool.{Bool, true, false, cond, _&&_}
 use mathlib.Core.List.{List, [], _∷_, _++_}
-use mathlib.Core.Logic.{_≢_, ⊎-elim}
+use mathlib.Core.Logic.{_≢_}
 use mathlib.Core.Path.{_≡_, refl, ap, sym}
-use native.Mathlib.Nat.{eq-or-lt-of-le}
 use native.Mathlib.Omega.{arith}
+use Rattle.card.proofs.AllLaws.{all-join, all-left, all-right, all-tab, tab-all, all-map}
 use Rattle.card.proofs.RangeLaws.{geometry-tells}
 use Rattle.card.proofs.Test.{both}
 use Rattle.card.specs.Bytes.{tabulate, All}
@@ -48,6 +48,7 @@ nowhere : {A : Type 0} (start oid : ℕ) (p : Address) → locate [] start oid �
 unfolding locate
 nowhere start oid p e = let z : _≡_ {A = ℕ} 0 1 = cc in absurd (omega arith)
 
+-- every place lies among the blocks of its ranges
 pub lies : (rs : List Range) (start oid : ℕ) (p : Address) → locate rs start oid ≡ Located p → Within start (start + allBlocks rs) p
 lies [] start oid p e = nowhere start oid p e
 lies (r ∷ rs) start oid p e = go (found r rs start oid p e) (λ q. lies rs (start + rangeBlocks (r .pages)) oid p q)
@@ -64,6 +65,7 @@ lies-home blocks area rs oid p g e = rw (geometry-tells blocks area rs g .full) 
 
 -- ---- two OIDs
 
+-- no page is the other's page or pot, and one pot has two entries
 pub record PlacesApart (p q : Address) : Type 0 where
   pub pages : p .page ≢ q .page
   pub page-pot : p .page ≢ q .pot
@@ -80,6 +82,7 @@ below-apart lo m hi p q a b = omega arith
 above-apart : (lo m hi : ℕ) (p q : Address) → Within m hi p → Within lo m q → PlacesApart p q
 above-apart lo m hi p q a b = omega arith
 
+-- two OIDs have two places
 pub places-apart : (rs : List Range) (start o u : ℕ) (p q : Address) → o ≢ u → locate rs start o ≡ Located p → locate rs start u ≡ Located q → PlacesApart p q
 places-apart [] start o u p q d e f = nowhere start o p e
 places-apart (r ∷ rs) start o u p q d e f = go (found r rs start o p e) (found r rs start u q f)
@@ -98,23 +101,6 @@ places-apart (r ∷ rs) start o u p q d e f = go (found r rs start o p e) (found
     go (later s) (later s′) rec = rec s s′
 
 -- ---- pots
-
-pub all-tab : {A : Type 0} (P : A → Type 0) (f : ℕ → A) (i n : ℕ) → ((k : ℕ) → i ≤ k → k < i + n → P (f k)) → All P (tabulate f i n)
-unfolding tabulate
-all-tab P f i zero h = tt
-all-tab P f i (suc n) h = (h i (omega arith) (omega arith), all-tab P f (suc i) n (λ k a b. h k (omega arith) (omega arith)))
-
-pub all-join : {A : Type 0} (P : A → Type 0) (xs ys : List A) → All P xs → All P ys → All P (xs ++ ys)
-all-join P [] ys h k = k
-all-join P (x ∷ xs) ys h k = (h .0, all-join P xs ys (h .1) k)
-
-pub all-left : {A : Type 0} (P : A → Type 0) (xs ys : List A) → All P (xs ++ ys) → All P xs
-all-left P [] ys h = tt
-all-left P (x ∷ xs) ys h = (h .0, all-left P xs ys (h .1))
-
-pub all-right : {A : Type 0} (P : A → Type 0) (xs ys : List A) → All P (xs ++ ys) → All P ys
-all-right P [] ys h = h
-all-right P (x ∷ xs) ys h = all-right P xs ys (h .1)
 
 -- what holds of the blocks from start on, as far as they reach, holds of the pots
 pub pots-among : (P : ℕ → Type 0) (rs : List Range) (start : ℕ) → ((m : ℕ) → start ≤ m → m < start + allBlocks rs → P m) → All P (allPots rs start)
@@ -143,11 +129,6 @@ page-no-pot (r ∷ rs) start oid p e = go (found r rs start oid p e) (λ q. page
 abbrev pub In : ℕ → List ℕ → Type 0
 In n ns = All (λ m. n ≢ m) ns → ⊥
 
-in-tab : (f : ℕ → ℕ) (i n k : ℕ) → i ≤ k → k < i + n → In (f k) (tabulate f i n)
-unfolding tabulate
-in-tab f i zero k a b h = omega arith
-in-tab f i (suc n) k a b h = ⊎-elim (λ e. h .0 (ap f (sym e))) (λ l. in-tab f (suc i) n k (omega arith) (omega arith) (h .1)) (eq-or-lt-of-le a)
-
 -- every page's pot is one of them
 pub pot-in : (rs : List Range) (start oid : ℕ) (p : Address) → locate rs start oid ≡ Located p → In (p .pot) (allPots rs start)
 unfolding allPots
@@ -157,8 +138,8 @@ pot-in (r ∷ rs) start oid p e = go (found r rs start oid p e) (λ q. pot-in rs
     go : Found r rs start oid p → (locate rs (start + rangeBlocks (r .pages)) oid ≡ Located p → In (p .pot) (allPots rs (start + rangeBlocks (r .pages)))) → In (p .pot) (allPots (r ∷ rs) start)
     go (here l h q) rec a =
         let pot-is : p .pot ≡ start + 103 * ((oid - r .oid) / 102) = sym (ap (λ (x : Address). x .pot) q) in
-        in-tab (λ i. start + 103 * i) 0 (potCount (r .pages)) ((oid - r .oid) / 102) (omega arith) (omega arith)
-        (rw pot-is at (all-left (λ m. p .pot ≢ m) (tabulate (λ i. start + 103 * i) 0 (potCount (r .pages))) _ a))
+        tab-all (λ m. p .pot ≢ m) (λ i. start + 103 * i) 0 (potCount (r .pages)) (all-left (λ m. p .pot ≢ m) (tabulate (λ i. start + 103 * i) 0 (potCount (r .pages))) _ a)
+        ((oid - r .oid) / 102) (omega arith) (omega arith) pot-is
     go (later q) rec a = rec q (all-right (λ m. p .pot ≢ m) (tabulate (λ i. start + 103 * i) 0 (potCount (r .pages))) _ a)
 
 -- in order
@@ -168,11 +149,8 @@ Rising (x ∷ xs) = All (λ y. x < y) xs × Rising xs
 
 rising-join : (m : ℕ) (xs ys : List ℕ) → All (λ x. x < m) xs → All (λ y. m ≤ y) ys → Rising xs → Rising ys → Rising (xs ++ ys)
 rising-join m [] ys a b p q = q
-rising-join m (x ∷ xs) ys a b p q = (all-join (λ y. x < y) xs ys (p .0) (above ys b), rising-join m xs ys (a .1) b (p .1) q)
-  where
-    above : (zs : List ℕ) → All (λ y. m ≤ y) zs → All (λ y. x < y) zs
-    above [] h = tt
-    above (z ∷ zs) h = (omega (arith, a .0, h .0), above zs (h .1))
+rising-join m (x ∷ xs) ys a b p q =
+    (all-join (λ y. x < y) xs ys (p .0) (all-map (λ y. m ≤ y) (λ y. x < y) ys (λ y h. omega (arith, a .0, h)) b), rising-join m xs ys (a .1) b (p .1) q)
 
 rising-tab : (start i n : ℕ) → Rising (tabulate (λ k. start + 103 * k) i n)
 unfolding tabulate

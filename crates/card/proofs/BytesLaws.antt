@@ -4,9 +4,8 @@ use Prim.Native.Nat.{ℕ, zero, suc, _+_, _-_, _*_, _≤_, _<_}
 use borrow.Rule.Slice.PartMut.{putMid, post-is}
 use lib.ListN.{length, take, drop, set, getD, replicate, length-append, length-take, length-drop, length-replicate, take-append-drop, drop-of-length-le, List·getD-append}
 use lib.Seq.{sets-eq, take-at, drop-at, length-take-le, take-suc, take-append-le, drop-append-le, drop-append-add, drop-drop, getD-take, getD-drop, take-length, getD-append-add, getD-set-same, getD-set-other, ext-getD, set-split}
-use mathlib.Core.List.{List, [], _∷_, _++_, append-assoc, append-nil}
-use mathlib.Core.Logic.{_⊎_, inl, inr, ⊎-elim}
-use mathlib.Core.Option.{none}
+use mathlib.Core.List.{List, [], _∷_, _++_, append-assoc, append-nil, tail}
+use mathlib.Core.Logic.{_≢_, ⊎-elim}
 use mathlib.Core.Path.{_≡_, refl, ap, sym, _∙_}
 use native.Mathlib.Nat.{add-zero, zero-add, add-assoc}
 use native.Mathlib.Numerals.{add-one}
@@ -17,7 +16,6 @@ use Rattle.card.specs.Bytes.{part, patch, tabulate, All, pairs, u32Bytes
 -- ---- what code leaves of a slice, as a part or a patch
 
 -- four stores, one after the other
-
 pub stores4 : (s : List ℕ) (at a b c d : ℕ) → at + 4 ≤ length s
     → set (set (set (set s at a) (at + 1) b) (at + 2) c) (at + 3) d ≡ patch s at (a ∷ b ∷ c ∷ d ∷ [])
 unfolding patch
@@ -110,13 +108,9 @@ module _ (s : List ℕ) (at : ℕ) (v : List ℕ) (fits : at + length v ≤ leng
   -- other bytes are kept
   pub patch-other : (i : ℕ) → (at ≤ i → i < at + length v → ⊥) → getD (patch s at v) i 0 ≡ getD s i 0
   patch-other i out = ⊎-elim
-      (λ k. ⊎-elim (λ h. absurd (out h k)) (λ h. low i h) (le-or-lt at i))
       (λ k. high i k)
-      (below (le-or-lt (at + length v) i))
-    where
-      below : (at + length v ≤ i) ⊎ (i < at + length v) → (i < at + length v) ⊎ (at + length v ≤ i)
-      below (inl h) = inr h
-      below (inr h) = inl h
+      (λ k. ⊎-elim (λ h. absurd (out h k)) (λ h. low i h) (le-or-lt at i))
+      (le-or-lt (at + length v) i)
 
   pub patch-in : (i : ℕ) → i < length v → getD (patch s at v) (at + i) 0 ≡ getD v i 0
   unfolding patch
@@ -181,6 +175,17 @@ patch-old s at n =
     ∙ ap (λ (l : List ℕ). take at s ++ l) (front-back n (drop at s))
     ∙ take-append-drop at s
 
+-- ---- lengths
+
+-- a list of no member
+pub none-long : {A : Type 0} (xs : List A) → length xs ≡ 0 → xs ≡ []
+none-long [] h = refl
+none-long (x ∷ xs) h = absurd (omega arith)
+
+pub length-tail : {A : Type 0} (xs : List A) → 0 < length xs → suc (length (tail xs)) ≡ length xs
+length-tail [] h = absurd (omega arith)
+length-tail (x ∷ xs) h = refl
+
 -- ---- tabulated lists
 
 module _ {A : Type 0} (f : ℕ → A) where
@@ -204,10 +209,26 @@ module _ {A : Type 0} (f : ℕ → A) where
   unfolding tabulate
   tab-end i n h = let e : n - i ≡ 0 = omega arith in rw e
 
+  pub tab-none : (i : ℕ) → tabulate f i 0 ≡ []
+  unfolding tabulate
+  tab-none i = refl
+
+  pub tab-tail : (i n : ℕ) → tail (tabulate f i (suc n)) ≡ tabulate f (suc i) n
+  unfolding tabulate
+  tab-tail i n = refl
+
+  -- two runs that adjoin are one
+  pub tab-append : (i n k : ℕ) → tabulate f i n ++ tabulate f (i + n) k ≡ tabulate f i (n + k)
+  unfolding tabulate
+  tab-append i zero k = rw (add-zero, zero-add)
+  tab-append i (suc n) k =
+      let e : suc n + k ≡ suc (n + k) = omega arith in
+      let d : i + suc n ≡ suc i + n = omega arith in
+      rw (e, d) (ap (λ (l : List A). f i ∷ l) (tab-append (suc i) n k))
+
   pub tab-snoc : (i n : ℕ) → tabulate f i (suc n) ≡ tabulate f i n ++ (f (i + n) ∷ [])
   unfolding tabulate
-  tab-snoc i zero = rw add-zero
-  tab-snoc i (suc n) = let e : i + suc n ≡ suc i + n = omega arith in ap (λ (l : List A). f i ∷ l) (rw e (tab-snoc (suc i) n))
+  tab-snoc i n = rw add-one at (sym (tab-append i n 1))
 
   pub tab-getD : (i n k : ℕ) (d : A) → k < n → getD (tabulate f i n) k d ≡ f (i + k)
   unfolding tabulate
@@ -230,10 +251,40 @@ module _ {A : Type 0} (f : ℕ → A) where
   tab-take i zero (suc m) h = absurd (omega arith)
   tab-take i (suc n) (suc m) h = ap (λ (l : List A). f i ∷ l) (tab-take (suc i) n m (omega arith))
 
-pub tab-same : {A : Type 0} (f g : ℕ → A) (i n : ℕ) → ((k : ℕ) → i ≤ k → k < i + n → f k ≡ g k) → tabulate f i n ≡ tabulate g i n
-unfolding tabulate
-tab-same f g i zero h = refl
-tab-same f g i (suc n) h = cc (h i (omega arith) (omega arith), tab-same f g (suc i) n (λ k p q. h k (omega arith) (omega arith)))
+module _ {A : Type 0} (f g : ℕ → A) where
+  -- equal values at places that run along
+  pub tab-shift : (i j n : ℕ) → ((k : ℕ) → k < n → f (i + k) ≡ g (j + k)) → tabulate f i n ≡ tabulate g j n
+  unfolding tabulate
+  tab-shift i j zero h = refl
+  tab-shift i j (suc n) h =
+      let this : f i ≡ g j = ap f (sym (add-zero i)) ∙ h 0 (omega arith) ∙ ap g (add-zero j) in
+      let rest : (k : ℕ) → k < n → f (suc i + k) ≡ g (suc j + k) = λ k l. ap f (moved i k) ∙ h (suc k) (omega arith) ∙ ap g (sym (moved j k)) in
+      cc (this, tab-shift (suc i) (suc j) n rest)
+    where
+      moved : (a b : ℕ) → suc a + b ≡ a + suc b
+      moved a b = omega arith
+
+  -- equal values at the same places
+  pub tab-same : (i n : ℕ) → ((k : ℕ) → i ≤ k → k < i + n → f k ≡ g k) → tabulate f i n ≡ tabulate g i n
+  tab-same i n h = tab-shift i i n (λ k l. h (i + k) (omega arith) (omega arith))
+
+-- of values one after the other one is new
+module _ {A : Type 0} (f g : ℕ → A) where
+  -- it comes last
+  pub tab-add : (i n : ℕ) (x : A) → g (i + n) ≡ x → ((j : ℕ) → i ≤ j → j < i + n → g j ≡ f j) → tabulate g i (suc n) ≡ tabulate f i n ++ (x ∷ [])
+  tab-add i n x new other = tab-snoc g i n ∙ rw (new, tab-same g f i n other)
+
+  -- it replaces another
+  pub tab-set : (i n k : ℕ) (x : A) → k < n → g (i + k) ≡ x → ((j : ℕ) → i ≤ j → j < i + n → j ≢ i + k → g j ≡ f j) → tabulate g i n ≡ set (tabulate f i n) k x
+  unfolding tabulate
+  tab-set i zero k x l new other = absurd (omega arith)
+  tab-set i (suc n) zero x l new other =
+      let this : g i ≡ x = ap g (sym (add-zero i)) ∙ new in
+      cc (this, tab-same g f (suc i) n (λ j a b. other j (omega arith) (omega arith) (omega arith)))
+  tab-set i (suc n) (suc k) x l new other =
+      let e : suc i + k ≡ i + suc k = omega arith in
+      let this : g i ≡ f i = other i (omega arith) (omega arith) (omega arith) in
+      cc (this, tab-set (suc i) n k x (omega arith) (ap g e ∙ new) (λ j a b d. other j (omega arith) (omega arith) (omega arith)))
 
 -- a list is tabulated by its elements
 pub tab-list : {A : Type 0} (d : A) (l : List A) → tabulate (λ k. getD l k d) 0 (length l) ≡ l
@@ -246,13 +297,9 @@ Filled f n l = (i : ℕ) → i < n → getD l i 0 ≡ f i
 
 pub filled-more : (f : ℕ → ℕ) (n : ℕ) (l : List ℕ) (x : ℕ) → n < length l → x ≡ f n → Filled f n l → Filled f (n + 1) (set l n x)
 filled-more f n l x h e p i q = ⊎-elim
-    (λ k. getD-set-other l n i x 0 (omega arith) ∙ p i k)
     (λ k. let s : i ≡ n = omega arith in rw s (getD-set-same l n x 0 h ∙ e))
-    (flip (le-or-lt n i))
-  where
-    flip : (n ≤ i) ⊎ (i < n) → (i < n) ⊎ (n ≤ i)
-    flip (inl a) = inr a
-    flip (inr a) = inl a
+    (λ k. getD-set-other l n i x 0 (omega arith) ∙ p i k)
+    (le-or-lt n i)
 
 pub filled-all : (f : ℕ → ℕ) (n : ℕ) (l : List ℕ) → length l ≡ n → Filled f n l → l ≡ tabulate f 0 n
 filled-all f n l e p = sym (tab-list 0 l) ∙ rw e (tab-same (λ k. getD l k 0) f 0 n (λ k a b. p k (omega arith)))

@@ -1,18 +1,17 @@
 -- What questions 3 to 8 come to, one after the other, as a card is read.
 -- Assumes nothing.
 use Prim.Native.Nat.{ℕ, _+_, _*_, _/_, _%_, _≤_, _<_}
-use borrow.Author.Tests.{leb-true, eqb-true, ne-eqb}
+use borrow.Author.Tests.{leb-true, eqb-true, le-leb, eq-eqb, ne-eqb}
 use lib.Dec.{leb, eqb}
 use lib.ListN.{length}
 use mathlib.Core.Bool.{Bool, true, false, cond}
 use mathlib.Core.List.{List, [], _∷_}
 use mathlib.Core.Logic.{_≢_}
-use mathlib.Core.Option.{some}
 use mathlib.Core.Path.{_≡_, sym, _∙_}
 use native.Mathlib.Omega.{arith}
-use Rattle.card.proofs.QuestionLaws.{none-asked, asked-yes, asked-no, group-yes, group-no, header-tells, commit-tells, trailer-tells}
+use Rattle.card.proofs.QuestionLaws.{none-asked, asked-yes, asked-no, group-yes, group-no, header-tells, commit-tells, trailer-tells, header-numbered}
 use Rattle.card.proofs.RangeLaws.{geometry-tells}
-use Rattle.card.proofs.Test.{both}
+use Rattle.card.proofs.Test.{both, joined}
 use Rattle.card.specs.Block.{blockAt, whole}
 use Rattle.card.specs.Bytes.{tabulate}
 use Rattle.card.specs.Checkpoint.{Recovered, HeaderPassed}
@@ -34,6 +33,12 @@ whole-tells low high n e =
     let b = both (leb low (n / 512)) _ (a .1) in
     let z : n % 512 ≡ 0 = eqb-true _ _ (a .0) in
     (omega arith, (leb-true _ _ (b .0), leb-true _ _ (b .1)))
+
+-- and what passes it
+pub whole-is : (low high k n : ℕ) → n ≡ 512 * k → low ≤ k → k ≤ high → whole low high n ≡ true
+unfolding whole
+whole-is low high k n e l h =
+    joined _ _ (eq-eqb (n % 512) 0 (omega arith)) (joined _ _ (le-leb low (n / 512) (omega arith)) (le-leb (n / 512) high (omega arith)))
 
 -- a refusal by the first "no"
 pub refusal-is : {c : List ℕ} {r : Checkpoint} (n : ℕ) → 0 < n → r .refusal ≡ n → firstNo (cardAsks c) ≡ n → Recovered c r
@@ -58,10 +63,10 @@ refuse-header c h n w e f ne =
 
 module _ {c : List ℕ} {h : Header} (ok : HeaderPassed c h) where
   asked : firstNo (cardAsks c) ≡ firstNo (generationAsks c)
-  unfolding cardAsks headerAsks
+  unfolding cardAsks
   asked =
       asked-yes 3 (whole 11 65536 (length c)) _ (ok .card-whole)
-      ∙ rw (← ok .header-is) (group-yes (headerAsks (length c / 512) h) (generationAsks c) (omega arith, (omega arith, (omega arith, tt))) (ok .passed))
+      ∙ rw (← ok .header-is) (group-yes (headerAsks (length c / 512) h) (generationAsks c) (header-numbered (length c / 512) h) (ok .passed))
 
   pub passed-area : (h .area ≤ 512) × (512 * h .area + 512 ≤ length c)
   passed-area =
@@ -111,6 +116,7 @@ module _ {c : List ℕ} {h : Header} (ok : HeaderPassed c h) where
       pub directory-is : entriesOf (d .frames) (d .blocks) (d .count) ≡ entriesOn c
       directory-is = rw count (read ∙ sym entries-are)
 
+      -- 8 is asked last
       pub last-asked : (b : Bool) → trailerFits h t ≡ true → entriesFit (length c / 512) (h .area) (t .first) (t .pages) (h .area) (entriesOf (d .frames) (d .blocks) (d .count)) ≡ b
           → firstNo (cardAsks c) ≡ cond b 0 8
       unfolding firstNo

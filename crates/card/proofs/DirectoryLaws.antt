@@ -1,6 +1,6 @@
 -- Directories: how a block is put, and that the whole directory is read back from its blocks.
 -- Assumes nothing.
-use Prim.Native.Nat.{ℕ, zero, suc, _+_, _-_, _*_, _/_, _%_, _≤_, _<_, min}
+use Prim.Native.Nat.{ℕ, _+_, _-_, _*_, _/_, _%_, _≤_, _<_, min}
 use lib.ListN.{length, take, drop, getD, replicate, length-take, length-drop}
 use lib.Seq.{take-all, getD-take, getD-drop}
 use mathlib.Core.List.{List, [], _∷_, _++_}
@@ -9,10 +9,11 @@ use mathlib.Core.Path.{_≡_, ap, sym, _∙_}
 use native.Mathlib.Nat.{zero-add}
 use native.Mathlib.Numerals.{add-one}
 use native.Mathlib.Omega.{arith}
+use Rattle.card.proofs.AllLaws.{all-take, all-drop}
 use Rattle.card.proofs.BytesLaws.{patch-on, tab-length, tab-more, tab-snoc, tab-drop, tab-take, tab-same, tab-list, Filled, U32, words-length, words-append, read-words, pairs-length, pairs-append, pairs-fit, pairs-first, pairs-second, pad-length, zeros-length, zeros-patch}
 use Rattle.card.proofs.Test.{le-or-lt}
 use Rattle.card.specs.Block.{blockAt}
-use Rattle.card.specs.Bytes.{part, patch, tabulate, All, pairs, getU32, words, pad, zeros}
+use Rattle.card.specs.Bytes.{patch, tabulate, All, pairs, getU32, words, pad, zeros}
 use Rattle.card.specs.Directory.{entryIn, entriesOf, entryNumbers, dirBlock, readEntry, entryOn, readDir}
 use Rattle.card.specs.Ring.{ringAt, dirBlocks}
 use Rattle.card.specs.declared.directory.Entry.{Entry}
@@ -69,6 +70,7 @@ front-all fs bs count j h =
 abbrev pub FitsEntry : Entry → Type 0
 FitsEntry e = U32 (e .frame) × U32 (e .block)
 
+-- the default of a list of entries
 abbrev pub noEntry : Entry
 noEntry = record { frame = 0; block = 0 }
 
@@ -82,16 +84,6 @@ read-entry es k t fit h =
     let b : getU32 (words (entryNumbers es) ++ t) (8 * k + 4) ≡ getD es k noEntry .block =
     rw q (read-words (entryNumbers es) (2 * k + 1) t (pairs-fit frameOf blockOf es fit) (omega (arith, pairs-length frameOf blockOf es)) ∙ pairs-second frameOf blockOf es k noEntry h) in
     λ i. record { frame = f i; block = b i }
-
-all-take : (P : Entry → Type 0) (n : ℕ) (es : List Entry) → All P es → All P (take n es)
-all-take P zero es h = tt
-all-take P (suc n) [] h = tt
-all-take P (suc n) (e ∷ es) h = (h .0, all-take P n es (h .1))
-
-all-drop : (P : Entry → Type 0) (n : ℕ) (es : List Entry) → All P es → All P (drop n es)
-all-drop P zero es h = h
-all-drop P (suc n) [] h = tt
-all-drop P (suc n) (e ∷ es) h = all-drop P n es (h .1)
 
 -- entry i is read back from its directory block
 pub read-dirBlock : (es : List Entry) (i : ℕ) → All FitsEntry es → i < length es → readEntry (dirBlock es (i / 64)) (i % 64) ≡ getD es i noEntry

@@ -4,7 +4,6 @@ use Prim.Native.Nat.{ℕ, zero, suc, _+_, _*_, _≤_, _<_}
 use lib.ListN.{length, take, drop, getD, length-take}
 use lib.Seq.{drop-cons}
 use mathlib.Core.List.{List, [], _∷_, _++_}
-use mathlib.Core.Option.{none}
 use mathlib.Core.Path.{_≡_, refl, ap, sym, _∙_}
 use native.Mathlib.Nat.{zero-add}
 use native.Mathlib.Omega.{arith}
@@ -65,6 +64,7 @@ module _ (commit trailer area : ℕ) where
 abbrev pub FitsRange : Range → Type 0
 FitsRange r = U32 (r .oid) × U32 (r .pages)
 
+-- h says what was put
 pub record HeaderBack (commit trailer area : ℕ) (rs : List Range) (h : Header) : Type 0 where
   pub layout-is : h .layout ≡ 1
   pub commit-is : h .commit ≡ commit

@@ -1,6 +1,7 @@
 -- Laws of the definitions in specs/, which belong to no one function.
 pub mod Test
 pub mod BytesLaws
+pub mod AllLaws
 pub mod BlockLaws
 pub mod RingLaws
 pub mod RangeLaws

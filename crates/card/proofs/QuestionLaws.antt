@@ -1,4 +1,4 @@
--- Laws of the first "no", and of question 8 asked entry by entry.
+-- Laws of the first "no", of question 8 asked entry by entry, and what questions 4 to 7 tell.
 -- Assumes nothing.
 use Prim.Native.Nat.{ℕ, suc, _+_, _-_, _≤_, _<_}
 use borrow.Author.Tests.{leb-true, eqb-true, ne-eqb}
@@ -7,6 +7,7 @@ use mathlib.Core.Bool.{Bool, true, false, cond, _&&_}
 use mathlib.Core.List.{List, [], _∷_, _++_}
 use mathlib.Core.Logic.{_≢_}
 use mathlib.Core.Path.{_≡_, refl, ap, sym, _∙_}
+use native.Mathlib.Decide.{ℕ-discrete}
 use native.Mathlib.Omega.{arith}
 use Rattle.card.proofs.RingLaws.{size-some}
 use Rattle.card.proofs.Test.{both}
@@ -58,6 +59,14 @@ group-no (p ∷ ps) qs = go (p .yes) (group-no ps qs)
     go true rec h = rec h
     go false rec h = refl
 
+-- both groups are passed
+pub groups-passed : (ps qs : List Question) → All (λ (q : Question). 0 < q .number) ps → firstNo (ps ++ qs) ≡ 0 → (firstNo ps ≡ 0) × (firstNo qs ≡ 0)
+groups-passed ps qs n h = go (ℕ-discrete (firstNo ps) 0)
+  where
+    go : Dec (firstNo ps ≡ 0) → (firstNo ps ≡ 0) × (firstNo qs ≡ 0)
+    go (yes z) = (z, sym (group-yes ps qs n z) ∙ h)
+    go (no d) = absurd (d (sym (group-no ps qs d) ∙ h))
+
 -- ---- question 8
 
 module _ (blocks area first p low : ℕ) (e : Entry) (es l : List Entry) (n : l ≡ e ∷ es) where
@@ -86,6 +95,11 @@ unfolding entriesFit
 fit-end blocks area first p low l e = rw e
 
 -- ---- what questions 4 to 7 tell
+
+-- each has a number
+pub header-numbered : (blocks : ℕ) (h : Header) → All (λ (q : Question). 0 < q .number) (headerAsks blocks h)
+unfolding headerAsks
+header-numbered blocks h = (omega arith, (omega arith, (omega arith, tt)))
 
 pub record HeaderTells (blocks : ℕ) (h : Header) : Type 0 where
   pub layout : h .layout ≡ 1

@@ -1,4 +1,4 @@
--- Laws of ranges: loops over them, what question 5 tells, and that places are apart.
+-- Laws of ranges: loops over them, and what question 5 tells.
 -- Assumes nothing.
 use Prim.Native.Nat.{ℕ, _+_, _-_, _*_, _≤_, _<_}
 use borrow.Author.Tests.{leb-true, eqb-true}

@@ -1,12 +1,12 @@
--- The ring's laws.
+-- The ring of area blocks: positions counted on from a first block, and back; sizes of generations.
 -- Assumes nothing.
 use Prim.Native.Nat.{ℕ, _+_, _≤_, _<_}
-use borrow.Author.Tests.{leb-true, leb-false, ne-eqb}
+use borrow.Author.Tests.{leb-true, leb-false, eq-eqb, ne-eqb}
 use lib.Dec.{leb}
-use mathlib.Core.Logic.{_⊎_, inl, inr}
+use mathlib.Core.Logic.{_⊎_, inl, inr, ⊎-elim}
 use mathlib.Core.Path.{_≡_, refl}
 use native.Mathlib.Omega.{arith}
-use Rattle.card.proofs.Test.{byTest}
+use Rattle.card.proofs.Test.{byTest, le-or-lt}
 use Rattle.card.specs.Ring.{ringAt, ringOffset, dirBlocks, generationSize}
 
 -- the two cases of each definition, as equations without subtraction
@@ -25,9 +25,6 @@ from-cases area first n h = byTest (λ k. ((first ≤ n) × (k + first ≡ n)) �
 module _ (area first : ℕ) (low : 1 ≤ first) (high : first ≤ area) where
   pub on-in : (i : ℕ) → i ≤ area → (1 ≤ ringAt area first i) × (ringAt area first i ≤ area)
   on-in i h = elim (on-cases area first i) [ inl p ↦ omega arith | inr p ↦ omega arith ]
-
-  pub from-below : (n : ℕ) → 1 ≤ n → n ≤ area → ringOffset area first n < area
-  from-below n l h = elim (from-cases area first n high) [ inl p ↦ omega arith | inr p ↦ omega arith ]
 
   pub from-on : (i : ℕ) → i < area → ringOffset area first (ringAt area first i) ≡ i
   from-on i h = elim (on-cases area first i) [
@@ -68,3 +65,19 @@ ring-high area first i h k = elim (on-cases area first i) [ inl p ↦ omega arit
 pub size-some : (p e : ℕ) → 1 ≤ e → generationSize p e ≡ p + dirBlocks e + 1
 unfolding generationSize
 size-some p e h = rw (ne-eqb e 0 (omega arith))
+
+pub size-none : (p e : ℕ) → e ≡ 0 → generationSize p e ≡ 0
+unfolding generationSize
+size-none p e h = rw (eq-eqb e 0 h)
+
+-- more places and more entries make no smaller generation
+pub size-more : (p e q f : ℕ) → p ≤ q → e ≤ f → generationSize p e ≤ generationSize q f
+size-more p e q f h k = ⊎-elim (λ l. omega (arith, size-some p e l, size-some q f (omega arith))) (λ l. omega (arith, size-none p e (omega arith))) (le-or-lt 1 e)
+
+-- an entry makes it larger than its places
+pub size-above : (p e : ℕ) → 1 ≤ e → p < generationSize p e
+size-above p e h = omega (arith, size-some p e h)
+
+-- a size that is small bounds the entries
+pub entries-small : (p e most : ℕ) → e ≤ p → generationSize p e ≤ most → e ≤ most
+entries-small p e most h k = ⊎-elim (λ l. omega (arith, size-some p e l)) (λ l. omega arith) (le-or-lt 1 e)

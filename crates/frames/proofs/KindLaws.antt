@@ -5,14 +5,15 @@ use borrow.Author.Tests.{lt-ltb, le-ltb, ne-eqb}
 use lib.ListN.{length, getD}
 use mathlib.Core.Bool.{true}
 use mathlib.Core.List.{List, []}
-use mathlib.Core.Path.{_≡_, refl, ap, sym}
+use mathlib.Core.Path.{_≡_, refl, ap, sym, _∙_}
 use native.Mathlib.Nat.{add-zero, zero-add}
 use native.Mathlib.Numerals.{add-one}
 use native.Mathlib.Omega.{arith}
+use Rattle.card.proofs.AllLaws.{all-map}
 use Rattle.card.proofs.BytesLaws.{tab-getD}
 use Rattle.card.proofs.RingLaws.{on-on, ring-high, size-some}
 use Rattle.card.specs.Block.{blockAt, putBlock}
-use Rattle.card.specs.Bytes.{tabulate, All}
+use Rattle.card.specs.Bytes.{All}
 use Rattle.card.specs.Directory.{entryIn, entriesOf, dirBlock}
 use Rattle.card.specs.Header.{headerBlock}
 use Rattle.card.specs.Question.{entriesFit}
@@ -20,26 +21,24 @@ use Rattle.card.specs.Range.{rangesOf}
 use Rattle.card.specs.Ring.{ringAt, half, dirBlocks, generationSize}
 use Rattle.card.specs.Trailer.{trailerBlock}
 use Rattle.card.specs.declared.directory.Directory.{Directory}
-use Rattle.card.specs.declared.directory.Entry.{Entry}
-use Rattle.frames.proofs.QueueLaws.{tab-none}
 use Rattle.frames.proofs.ReadyLaws.{firsts}
 use Rattle.frames.proofs.RisingLaws.{dir-inside}
 use Rattle.frames.specs.Step.{Sorted, KindDone, StepDone}
 use Rattle.record.proofs.Held.{Held, together, bounds}
-use Rattle.record.proofs.SoundLaws.{notes-length, ordered, listed-home, queue-length}
-use Rattle.record.proofs.Tests.{tab-all, each-within, apart-once}
+use Rattle.record.proofs.NoneLaws.{none-means, none-size, none-waits}
+use Rattle.record.proofs.SoundLaws.{notes-length, ordered, listed-home, queue-length, entry-inside}
+use Rattle.record.proofs.Tests.{each-within, apart-once}
 use Rattle.record.specs.Holds.{tailFor}
 use Rattle.record.specs.Lists.{cells, once, allWithin}
-use Rattle.record.specs.Meaning.{waits, sizeOf, noteIn, notesOf, committedSizeOf, seatAt, queueOf, pendingFirst, currentFirst, stateOf, NoChange}
+use Rattle.record.specs.Meaning.{waits, sizeOf, notesOf, committedSizeOf, queueOf, pendingFirst, currentFirst, stateOf, NoChange}
 use Rattle.record.specs.declared.store.Changes.{Changes}
 use Rattle.record.specs.declared.store.Store.{Store}
-use Rattle.recovery.proofs.Accept.{entries-ok, entries-told}
-use Rattle.recovery.proofs.ContentsLaws.{all-map}
+use Rattle.recovery.proofs.Accept.{entries-ok}
 use Rattle.recovery.proofs.NoteLaws.{rising-byFrame}
 use Rattle.recovery.proofs.OrderedLaws.{long-waiting, same-count}
 use Rattle.recovery.proofs.Sorted.{countOf}
 use Rattle.recovery.specs.Directory.{downEntries, dirOf}
-use Rattle.recovery.specs.Sound.{Home, Between}
+use Rattle.recovery.specs.Sound.{Home}
 use Rattle.recovery.specs.State.{directoryOf, empty}
 use Rattle.recovery.specs.Step.{Kind, directory, trailer, migration, header, tailBytes, trailerBlockNo, nextMigration, kindWrite, afterKind}
 
@@ -112,6 +111,7 @@ module _ (s : Store) (h : Held s) where
       together = together (countedTo s (s .migrated + 1) (s .tail)) (counted-held (s .migrated + 1) (s .tail) (omega (arith, more)) (h .tail-within) (h .tail-after));
     }
 
+    -- M copies the entry's block to its frame
     pub home-write : (home from : ℕ) → home ≡ getD (s .committed .frames) (s .migrated) 0 → from ≡ getD (s .committed .blocks) (s .migrated) 0 → (card m : List ℕ)
         → kindWrite migration (stateOf s m) card ≡ record { block = home; bytes = blockAt card from }
     unfolding kindWrite nextMigration entriesOf
@@ -120,15 +120,7 @@ module _ (s : Store) (h : Held s) where
 
     -- a block of the area goes to a home block
     pub home-inside : (getD (s .committed .blocks) (s .migrated) 0 ≤ s .geometry .area) × (getD (s .committed .frames) (s .migrated) 0 < s .geometry .blocks)
-    unfolding entriesOf
-    home-inside =
-        let area = s .geometry .area in
-        let blocks = s .geometry .blocks in
-        let f : ℕ → Entry = entryIn (s .committed .frames) (s .committed .blocks) in
-        let facts = entries-told blocks area (s .first) (s .pages) area (tabulate f 0 (s .committed .count)) (omega arith) (h .committed) in (
-          tab-all (Between area (s .first) 0 (s .pages)) f 0 (s .committed .count) (facts .1 .1 .0) (s .migrated) (omega arith) (omega (arith, more)) .1,
-          tab-all (Home area blocks) f 0 (s .committed .count) (facts .1 .0) (s .migrated) (omega arith) (omega (arith, more)) .1,
-        )
+    home-inside = entry-inside s h (s .migrated) more
 
 -- ---- a pending generation
 
@@ -231,13 +223,6 @@ module _ (s : Store) (h : Held s) (still : waits (s .pending) ≡ 0) (any : 0 < 
         (dir-inside area first (s .pending .taken) (omega (arith, at-first, in-area .0)) (omega (arith, at-first, in-area .1)) (omega (arith, pending-room s h any)) (notesOf (s .pending)))
         (unfold dirOf in (rising-byFrame (downEntries area first (s .pending .taken) (notesOf (s .pending))))))
 
-    size-none : sizeOf e ≡ 0
-    unfolding generationSize
-    size-none = rw (z .count) refl
-
-    none-waits : waits e ≡ 0
-    none-waits = omega (arith, z .taken)
-
     size-same : generationSize (s .pending .taken) (d .count) ≡ sizeOf (s .pending)
     size-same = ap (generationSize (s .pending .taken)) (r .count-is)
 
@@ -246,7 +231,7 @@ module _ (s : Store) (h : Held s) (still : waits (s .pending) ≡ 0) (any : 0 < 
     next-first = rw (at-first, size-same) (on-on (s .geometry .area) (s .first) (h .first-low) (h .first-high) (committedSizeOf s) (sizeOf (s .pending)) (omega (arith, h .room)))
 
     same-first : ringAt (s .geometry .area) first (generationSize (s .pending .taken) (d .count) + sizeOf e) ≡ currentFirst s
-    same-first = rw (size-none, add-zero (generationSize (s .pending .taken) (d .count))) next-first
+    same-first = rw (none-size e z, add-zero (generationSize (s .pending .taken) (d .count))) next-first
 
     commit-held : Held (committedTo s first d e)
     commit-held = record {
@@ -263,14 +248,14 @@ module _ (s : Store) (h : Held s) (still : waits (s .pending) ≡ 0) (any : 0 < 
       current-few = h .current-few;
       current-down = h .current-down;
       half-committed = rw size-same (h .half-pending);
-      half-pending = omega (arith, size-none);
+      half-pending = omega (arith, none-size e z);
       half-current = h .half-current;
-      room = rw (size-same, size-none) (omega (arith, h .room));
+      room = rw (size-same, none-size e z) (omega (arith, h .room));
       migrated-within = omega arith;
       tail-within = omega arith;
-      tail-after = λ l. none-waits;
+      tail-after = λ l. none-waits e z;
       head-low = h .head-low;
-      seated = omega (arith, none-waits, still, h .seated);
+      seated = omega (arith, none-waits e z, still, h .seated);
       committed = sorted-fits;
       pending = record {
         home = λ i l. absurd (omega (arith, l, z .count));
@@ -292,7 +277,7 @@ module _ (s : Store) (h : Held s) (still : waits (s .pending) ≡ 0) (any : 0 < 
         commit = add-one (s .commit) i;
         committed = record { first = at-first i; places = put-down i; entries = entries m i };
         migrated = 0;
-        pending = record { first = next-first i; pagesDown = z .down i; entries = notes i; waiting = nothing m i };
+        pending = pending m i;
         tailDown = 0;
         current = record { first = same-first i; pagesDown = s .current .down; entries = notesOf (s .current); waiting = queue m i };
       };
@@ -305,11 +290,8 @@ module _ (s : Store) (h : Held s) (still : waits (s .pending) ≡ 0) (any : 0 < 
         entries : (m : List ℕ) → entriesOf (d .frames) (d .blocks) (d .count) ≡ directoryOf (s .geometry .area) (stateOf s m .pending)
         entries m = rw (directory-is m, ← at-first) (r .entries-are)
 
-        notes : notesOf e ≡ []
-        notes = rw (z .count) (tab-none (noteIn (e .frames) (e .places)) 0)
-
-        nothing : (m : List ℕ) → queueOf s m 0 (waits e) ≡ []
-        nothing m = rw none-waits (tab-none (λ k. blockAt m (seatAt (s .frames) (s .head) k)) 0)
+        pending : (m : List ℕ) → stateOf (committedTo s first d e) m .pending ≡ empty (currentFirst s)
+        pending m = none-means e z _ 0 _ ∙ ap empty next-first
 
         queue : (m : List ℕ) → queueOf s m (waits e) (waits (s .current)) ≡ queueOf s m (waits (s .pending)) (waits (s .current))
-        queue m = rw (none-waits, still) refl
+        queue m = rw (none-waits e z, still) refl

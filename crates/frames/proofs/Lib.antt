@@ -8,6 +8,7 @@ pub mod RisingLaws
 pub mod KindLaws
 pub mod LoadLaws
 pub mod NeedLaws
+pub mod TakeLaws
 pub mod ChangeLaws
 pub mod KeepLaws
 pub mod EachLaws

@@ -1,19 +1,15 @@
 -- Where a frame's newest bytes are, told by the first entry of the frame in each generation.
 -- Assumes nothing.
-use Prim.Native.Nat.{ℕ, zero, suc, _+_, _-_, _≤_, _<_}
-use borrow.Author.Tests.{eq-eqb, ne-eqb}
-use lib.Dec.{eqb}
+use Prim.Native.Nat.{ℕ, suc, _+_, _-_, _≤_, _<_}
 use lib.ListN.{length, getD}
-use mathlib.Core.Bool.{Bool, true, false, cond, false≢true}
+use mathlib.Core.Bool.{true, false, false≢true}
 use mathlib.Core.List.{List, [], _∷_}
 use mathlib.Core.Logic.{_≢_}
 use mathlib.Core.Path.{_≡_, refl, ap, sym, _∙_}
-use native.Mathlib.Numerals.{add-one}
 use native.Mathlib.Omega.{arith}
-use Rattle.card.proofs.BytesLaws.{tab-start, tab-more, tab-end, tab-getD}
-use Rattle.card.proofs.RingLaws.{ring-high, size-some}
+use Rattle.card.proofs.BytesLaws.{tab-getD}
+use Rattle.card.proofs.RingLaws.{ring-high, size-above}
 use Rattle.card.specs.Block.{blockAt}
-use Rattle.card.specs.Bytes.{tabulate}
 use Rattle.card.specs.Directory.{entryIn, entriesOf}
 use Rattle.card.specs.Ring.{ringAt}
 use Rattle.card.specs.declared.directory.Entry.{Entry}
@@ -21,75 +17,22 @@ use Rattle.frames.proofs.ReadyLaws.{firsts}
 use Rattle.frames.specs.Step.{Located, foundBytes, committedBytes}
 use Rattle.frames.specs.declared.answer.Found.{Found}
 use Rattle.record.proofs.Held.{Listed, Held, held, bounds}
-use Rattle.record.proofs.SoundLaws.{seat-low, frame-is, one-entry, queue-length}
-use Rattle.record.proofs.Tests.{tab-all}
+use Rattle.record.proofs.ListLaws.{first-none, first-found}
+use Rattle.record.proofs.SeatLaws.{seat-low}
+use Rattle.record.proofs.SoundLaws.{frame-is, same-index, queue-length, entry-inside}
 use Rattle.record.specs.Holds.{holdsTogether}
 use Rattle.record.specs.Lists.{First}
 use Rattle.record.specs.Meaning.{waits, noteIn, notesOf, seatAt, queueOf, generationOf, committedOf, pendingFirst, currentFirst}
 use Rattle.record.specs.declared.store.Changes.{Changes}
 use Rattle.record.specs.declared.store.Store.{Store}
-use Rattle.recovery.proofs.Accept.{entries-told}
-use Rattle.recovery.proofs.NoteLaws.{lookup-byFrame, lookup-hit, lookup-miss}
-use Rattle.recovery.proofs.PlaceLaws.{skip, is-down}
-use Rattle.recovery.proofs.Sorted.{Without, lookup}
-use Rattle.recovery.proofs.WaitLaws.{wait-without}
-use Rattle.recovery.specs.Contents.{Contents, FrameBytes, overlay, storedFrames}
-use Rattle.recovery.specs.Directory.{Note, downEntries, dirOf, frameOf, waitingFrom}
-use Rattle.recovery.specs.Sound.{Between}
+use Rattle.recovery.proofs.ContentsLaws.{overlay-without}
+use Rattle.recovery.proofs.NoteLaws.{lookup-byFrame, lookup-hit, lookup-miss, shown, overlay-lookup}
+use Rattle.recovery.proofs.PlaceLaws.{lookup-other, lookup-down}
+use Rattle.recovery.proofs.Sorted.{lookup}
+use Rattle.recovery.proofs.WaitLaws.{wait-without, overlay-turn}
+use Rattle.recovery.specs.Contents.{Contents, overlay, storedFrames}
+use Rattle.recovery.specs.Directory.{Note, downEntries, dirOf, frameOf}
 use Rattle.recovery.specs.State.{Generation, directoryOf, waitingFrames}
-
--- ---- a search in a tabulated list
-
--- What each element before i lets pass, and the rest has, the whole list has.
-first-skip : {A : Type 0} (P : List A → Type 0) (g : ℕ → A) (n i : ℕ) → i ≤ n → ((j : ℕ) → j < i → (xs : List A) → P xs → P (g j ∷ xs)) → P (tabulate g i (n - i)) → P (tabulate g 0 n)
-first-skip P g n zero h pass rest = rw (tab-start g n) at rest
-first-skip P g n (suc i) h pass rest =
-    let more : tabulate g i (n - i) ≡ g i ∷ tabulate g (suc i) (n - suc i) = rw (← add-one i) (tab-more g i n h) in
-    first-skip P g n i (omega arith) (λ j l. pass j (omega arith)) (rw more (pass i (omega arith) _ rest))
-
-module _ {A : Type 0} (P : List A → Type 0) (g : ℕ → A) (fs : List ℕ) (n f i : ℕ) (found : First fs n f i) (pass : (j : ℕ) → f ≢ getD fs j 0 → (xs : List A) → P xs → P (g j ∷ xs)) where
-  before : (j : ℕ) → j < i → (xs : List A) → P xs → P (g j ∷ xs)
-  before j l = pass j (λ e. found .before j l (sym e))
-
-  first-none : i ≡ n → P [] → P (tabulate g 0 n)
-  first-none e p = first-skip P g n i (found .most) before (rw (tab-end g i n (omega arith)) p)
-
-  first-found : i < n → ((xs : List A) → P (g i ∷ xs)) → P (tabulate g 0 n)
-  first-found h p = first-skip P g n i (found .most) before (rw (tab-more g i n h) (p _))
-
--- ---- what layers show
-
--- the bytes of a block that was looked up, or what lies below
-abbrev shown : List ℕ → List ℕ → ℕ → List ℕ
-shown c below zero = below
-shown c below (suc b) = blockAt c b
-
-overlay-lookup : (c : List ℕ) (es : List Entry) (base : Contents) (f : ℕ) → overlay (storedFrames c es) base f ≡ shown c (base f) (lookup f es)
-unfolding overlay storedFrames lookup
-overlay-lookup c [] base f = refl
-overlay-lookup c (e ∷ es) base f = go (eqb f (e .frame)) (overlay-lookup c es base f)
-  where
-    go : (t : Bool) → overlay (storedFrames c es) base f ≡ shown c (base f) (lookup f es)
-        → cond t (blockAt c (e .block)) (overlay (storedFrames c es) base f) ≡ shown c (base f) (cond t (suc (e .block)) (lookup f es))
-    go true rec = refl
-    go false rec = rec
-
-overlay-without : (ws : List FrameBytes) (base : Contents) (f : ℕ) → Without f ws → overlay ws base f ≡ base f
-unfolding overlay
-overlay-without [] base f h = refl
-overlay-without (w ∷ ws) base f h = rw (ne-eqb f (w .frame) (h .0)) (overlay-without ws base f (h .1))
-
--- the frame waits at turn i
-overlay-turn : (es : List Note) (base : Contents) (f i k : ℕ) (xs : List (List ℕ)) → i < length xs → frameOf (k + i) es ≡ f → ((j : ℕ) → k ≤ j → j < k + i → f ≢ frameOf j es)
-    → overlay (waitingFrom es k xs) base f ≡ getD xs i []
-unfolding overlay waitingFrom
-overlay-turn es base f i k [] h is un = absurd (omega arith)
-overlay-turn es base f zero k (x ∷ xs) h is un =
-    let e : k + 0 ≡ k = omega arith in
-    rw (eq-eqb f (frameOf k es) (sym (rw e at is)))
-overlay-turn es base f (suc i) k (x ∷ xs) h is un =
-    let e : k + suc i ≡ suc k + i = omega arith in
-    rw (ne-eqb f (frameOf k es) (un k (omega arith) (omega arith))) (overlay-turn es base f i (suc k) xs (omega arith) (rw e at is) (λ j l m. un j (omega arith) (omega arith)))
 
 -- ---- what a generation shows of a frame
 
@@ -110,7 +53,7 @@ module _ {area blocks : ℕ} {g : Changes} (h : Listed area blocks g) (first : �
   place-of : i < g .count → (j : ℕ) → g .down ≤ j → j < g .down + length w → f ≡ frameOf j (notesOf g) → getD (g .places) i 0 ≡ j
   place-of c j l m e =
       let p = entry-of j l m e in
-      ap (λ (t : ℕ). getD (g .places) t 0) (one-entry h i (p .0) c (p .1) (found .is c ∙ sym (p .2))) ∙ p .3
+      ap (λ (t : ℕ). getD (g .places) t 0) (same-index h i (p .0) c (p .1) (found .is c ∙ sym (p .2))) ∙ p .3
 
   not-queued : ((j : ℕ) → g .down ≤ j → j < g .down + length w → f ≢ frameOf j (notesOf g)) → overlay (waitingFrames generation) stored f ≡ stored f
   unfolding waitingFrames
@@ -120,22 +63,22 @@ module _ {area blocks : ℕ} {g : Changes} (h : Listed area blocks g) (first : �
   unfolding directoryOf dirOf
   looked-up n e = overlay-lookup card _ base f ∙ ap (shown card (base f)) (lookup-byFrame f _ ∙ e)
 
-  over-other : (n j : ℕ) → f ≢ getD (g .frames) j 0 → (xs : List Note) → lookup f (downEntries area first (g .down) xs) ≡ n
+  over-other : (n j : ℕ) → j < i → f ≢ getD (g .frames) j 0 → (xs : List Note) → lookup f (downEntries area first (g .down) xs) ≡ n
       → lookup f (downEntries area first (g .down) (noteIn (g .frames) (g .places) j ∷ xs)) ≡ n
-  over-other n j d xs e = skip area first (g .down) f _ xs d ∙ e
+  over-other n j l d xs e = lookup-other area first (g .down) f _ xs d ∙ e
 
   shows-none : i ≡ g .count → overlay (waitingFrames generation) stored f ≡ base f
   unfolding downEntries lookup
   shows-none e =
       not-queued (λ j l m q. let p = entry-of j l m q in found .before (p .0) (omega (arith, p .1)) (p .2))
-      ∙ looked-up 0 (first-none (λ xs. lookup f (downEntries area first (g .down) xs) ≡ 0) (noteIn (g .frames) (g .places)) (g .frames) (g .count) f i found (over-other 0) e refl)
+      ∙ looked-up 0 (first-none (λ j xs. lookup f (downEntries area first (g .down) xs) ≡ 0) (noteIn (g .frames) (g .places)) (g .frames) (g .count) f i found (over-other 0) e refl)
 
   shows-down : i < g .count → getD (g .places) i 0 < g .down → overlay (waitingFrames generation) stored f ≡ blockAt card (ringAt area first (getD (g .places) i 0))
   shows-down c l =
       let n : ℕ = suc (ringAt area first (getD (g .places) i 0)) in
       not-queued (λ j a b q. absurd (omega (arith, place-of c j a b q)))
-      ∙ looked-up n (first-found (λ xs. lookup f (downEntries area first (g .down) xs) ≡ n) (noteIn (g .frames) (g .places)) (g .frames) (g .count) f i found (over-other n) c
-      (λ xs. rw (← found .is c) (is-down area first (g .down) (noteIn (g .frames) (g .places) i) xs l)))
+      ∙ looked-up n (first-found (λ j xs. lookup f (downEntries area first (g .down) xs) ≡ n) (noteIn (g .frames) (g .places)) (g .frames) (g .count) f i found (over-other n) c
+      (λ xs. rw (← found .is c) (lookup-down area first (g .down) (noteIn (g .frames) (g .places) i) xs l)))
 
   shows-waiting : i < g .count → g .down ≤ getD (g .places) i 0 → overlay (waitingFrames generation) stored f ≡ getD w (getD (g .places) i 0 - g .down) []
   unfolding waitingFrames
@@ -158,23 +101,24 @@ at-memory s bytes n h e = record { there = e; in-memory = λ q. h; on-card = λ 
 
 -- committed, over home
 module _ (s : Store) {f i : ℕ} (found : First (s .committed .frames) (s .committed .count) f i) where
-  over-entry : (n j : ℕ) → f ≢ getD (s .committed .frames) j 0 → (xs : List Entry) → lookup f xs ≡ n → lookup f (entryIn (s .committed .frames) (s .committed .blocks) j ∷ xs) ≡ n
-  over-entry n j d xs e = lookup-miss f _ xs d ∙ e
+  over-entry : (n j : ℕ) → j < i → f ≢ getD (s .committed .frames) j 0 → (xs : List Entry) → lookup f xs ≡ n → lookup f (entryIn (s .committed .frames) (s .committed .blocks) j ∷ xs) ≡ n
+  over-entry n j l d xs e = lookup-miss f _ xs d ∙ e
 
+  -- no entry: the home block
   pub at-home : (n : ℕ) → i ≡ s .committed .count → n ≡ f → f < s .geometry .blocks → Located s (committedBytes s f) (record { memory = false; number = n })
   unfolding entriesOf lookup
   at-home n e q l = at-card s (committedBytes s f) n (omega arith) (λ card memory. ap (blockAt card) q ∙ sym (overlay-lookup card (committedOf s .entries) (blockAt card) f ∙ ap (shown card (blockAt card f))
-      (first-none (λ xs. lookup f xs ≡ 0) (entryIn (s .committed .frames) (s .committed .blocks)) (s .committed .frames) (s .committed .count) f i found (over-entry 0) e refl)))
+      (first-none (λ j xs. lookup f xs ≡ 0) (entryIn (s .committed .frames) (s .committed .blocks)) (s .committed .frames) (s .committed .count) f i found (over-entry 0) e refl)))
 
+  -- an entry: its area block
   pub at-committed : Held s → (n : ℕ) → i ≢ s .committed .count → n ≡ getD (s .committed .blocks) i 0 → Located s (committedBytes s f) (record { memory = false; number = n })
   unfolding entriesOf
   at-committed h n d q =
       let c : i < s .committed .count = omega (arith, found .most) in
-      let told = entries-told (s .geometry .blocks) (s .geometry .area) (s .first) (s .pages) (s .geometry .area) (committedOf s .entries) (omega arith) (h .committed) in
-      let inside = tab-all (Between (s .geometry .area) (s .first) 0 (s .pages)) (entryIn (s .committed .frames) (s .committed .blocks)) 0 (s .committed .count) (told .1 .1 .0) i (omega arith) (omega arith) in
+      let inside = entry-inside s h i c in
       let b : ℕ = getD (s .committed .blocks) i 0 in
-      at-card s (committedBytes s f) n (omega (arith, inside .1, bounds s h .area-inside)) (λ card memory. ap (blockAt card) q ∙ sym (overlay-lookup card (committedOf s .entries) (blockAt card) f ∙ ap (shown card (blockAt card f))
-      (first-found (λ xs. lookup f xs ≡ suc b) (entryIn (s .committed .frames) (s .committed .blocks)) (s .committed .frames) (s .committed .count) f i found (over-entry (suc b)) c
+      at-card s (committedBytes s f) n (omega (arith, inside .0, bounds s h .area-inside)) (λ card memory. ap (blockAt card) q ∙ sym (overlay-lookup card (committedOf s .entries) (blockAt card) f ∙ ap (shown card (blockAt card f))
+      (first-found (λ j xs. lookup f xs ≡ suc b) (entryIn (s .committed .frames) (s .committed .blocks)) (s .committed .frames) (s .committed .count) f i found (over-entry (suc b)) c
       (λ xs. rw (← found .is c) (lookup-hit (entryIn (s .committed .frames) (s .committed .blocks) i) xs)))))
 
 -- a generation whose first block is `first`, and before whose waiting frames `ahead` others wait
@@ -194,7 +138,7 @@ pending-placed s q =
       listed = h .pending;
       few = bounds s h .pending-small;
       first-in = firsts s h .pending-in .1;
-      inside = λ z. omega (arith, size-some (s .pending .taken) (s .pending .count) (omega arith), h .half-pending);
+      inside = λ z. omega (arith, size-above (s .pending .taken) (s .pending .count) (omega arith), h .half-pending);
       seated = omega (arith, h .seated);
     }
 
@@ -206,7 +150,7 @@ current-placed s q =
       listed = h .current;
       few = bounds s h .current-small;
       first-in = firsts s h .current-in .1;
-      inside = λ z. omega (arith, size-some (s .current .taken) (s .current .count) (omega arith), h .half-current);
+      inside = λ z. omega (arith, size-above (s .current .taken) (s .current .count) (omega arith), h .half-current);
       seated = h .seated;
     }
 
@@ -244,16 +188,18 @@ module _ {s : Store} {g : Changes} {first ahead : ℕ} (placed : Placed s g firs
         pub ring-in : (s .geometry .area ≤ 512) × ((from ≤ s .geometry .area) × (place ≤ s .geometry .area))
         ring-in = (bounds s (placed .together) .area-high, (rw start (placed .first-in), place-in .1))
 
-        pub put-down : (below : List ℕ → List ℕ → Contents) (n : ℕ) → place < g .down → n ≡ ringAt (s .geometry .area) from place → Located s (over below) (record { memory = false; number = n })
-        put-down below n l e =
+        -- a place that is down: its area block
+        pub at-place : (below : List ℕ → List ℕ → Contents) (n : ℕ) → place < g .down → n ≡ ringAt (s .geometry .area) from place → Located s (over below) (record { memory = false; number = n })
+        at-place below n l e =
             at-card s (over below) n (omega (arith, ring-high (s .geometry .area) from place (ring-in .1 .0) (place-in .1), bounds s (placed .together) .area-inside))
             (λ card memory. ap (blockAt card) (rw (← start, ← is) e) ∙ sym (shows-down (placed .listed) first (queueOf s memory ahead (waits g)) (long memory) card (below card memory) f i found inner (rw is at l)))
 
       pub turn-in : g .down ≤ place → ahead + (place - g .down) ≤ s .frames
       turn-in l = omega (arith, place-in .0, placed .seated)
 
-      pub queued : (below : List ℕ → List ℕ → Contents) (n : ℕ) → g .down ≤ place → n ≡ seatAt (s .frames) (s .head) (ahead + (place - g .down)) → Located s (over below) (record { memory = true; number = n })
-      queued below n l e =
+      -- one that waits: its memory frame
+      pub at-turn : (below : List ℕ → List ℕ → Contents) (n : ℕ) → g .down ≤ place → n ≡ seatAt (s .frames) (s .head) (ahead + (place - g .down)) → Located s (over below) (record { memory = true; number = n })
+      at-turn below n l e =
           at-memory s (over below) n (omega (arith, seat-low (s .frames) (s .head) (ahead + (place - g .down)) (placed .together .head-low) (turn-in l)))
           (λ card memory.
           ap (blockAt memory) e

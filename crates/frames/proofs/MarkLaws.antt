@@ -2,55 +2,26 @@
 -- Assumes nothing.
 use Prim.Native.Nat.{ℕ, _+_, _<_}
 use mathlib.Core.Bool.{true}
-use mathlib.Core.List.{List, []}
+use mathlib.Core.List.{List}
 use mathlib.Core.Path.{_≡_, ap, sym, _∙_}
 use native.Mathlib.Nat.{add-zero}
 use native.Mathlib.Omega.{arith}
 use Rattle.card.proofs.RingLaws.{on-on}
-use Rattle.card.specs.Bytes.{tabulate}
 use Rattle.card.specs.Range.{rangesOf}
 use Rattle.card.specs.Ring.{ringAt, generationSize}
-use Rattle.frames.proofs.QueueLaws.{tab-none, bytesFrom}
+use Rattle.frames.proofs.QueueLaws.{bytesFrom}
 use Rattle.frames.specs.Step.{StepDone}
-use Rattle.record.proofs.Held.{Listed, Held, held, together}
+use Rattle.record.proofs.Held.{Held, held, together}
+use Rattle.record.proofs.NoneLaws.{none-means, none-size, none-listed}
 use Rattle.record.proofs.SoundLaws.{current-size}
 use Rattle.record.specs.Holds.{holdsTogether}
-use Rattle.record.specs.Meaning.{waits, sizeOf, notesOf, committedSizeOf, generationOf, committedOf, pendingFirst, currentFirst, stateOf, NoChange}
+use Rattle.record.specs.Meaning.{waits, sizeOf, notesOf, committedSizeOf, committedOf, pendingFirst, currentFirst, stateOf, NoChange}
 use Rattle.record.specs.declared.store.Changes.{Changes}
 use Rattle.record.specs.declared.store.Store.{Store}
 use Rattle.recovery.specs.State.{size, empty}
 use Rattle.recovery.specs.Step.{afterSnapshot}
 
--- ---- a generation without a change
-
-module _ (g : Changes) (none : NoChange g) where
-  none-wait : waits g ≡ 0
-  none-wait = omega (arith, none .taken)
-
-  pub none-means : (first i : ℕ) (at : ℕ → List ℕ) → generationOf first (tabulate at i (waits g)) g ≡ empty first
-  unfolding empty
-  none-means first i at = λ k. record { first = first; pagesDown = none .down k; entries = entries k; waiting = waiting k }
-    where
-      entries : notesOf g ≡ []
-      entries = rw (none .count) (tab-none _ 0)
-
-      waiting : tabulate at i (waits g) ≡ []
-      waiting = rw none-wait (tab-none _ i)
-
-  pub none-size : sizeOf g ≡ 0
-  unfolding generationSize
-  none-size = rw (none .count)
-
-  pub none-listed : (area blocks : ℕ) → Listed area blocks g
-  none-listed area blocks = record {
-    home = λ i l. absurd (omega (arith, none .count));
-    single = λ i j l k. absurd (omega (arith, none .count));
-    taken = λ i l. absurd (omega (arith, none .count));
-    stands = λ k l h. absurd (omega (arith, none .taken));
-  }
-
--- ---- the record of a snapshot: its current generation is e
-
+-- the record of a snapshot: its current generation is e
 abbrev marked : Store → Changes → Store
 marked s e = record {
   frames = s .frames;

@@ -3,18 +3,18 @@
 use Prim.Native.Nat.{ℕ, _+_, _-_, _≤_, _<_}
 use lib.ListN.{length}
 use mathlib.Core.List.{List, [], tail}
-use mathlib.Core.Option.{none}
 use mathlib.Core.Path.{_≡_, refl, ap, sym, _∙_}
 use native.Mathlib.Numerals.{add-one}
 use native.Mathlib.Omega.{arith}
+use Rattle.card.proofs.BytesLaws.{tab-none}
 use Rattle.card.specs.Block.{blockAt, putBlock}
 use Rattle.card.specs.Range.{rangesOf}
 use Rattle.card.specs.Ring.{ringAt}
-use Rattle.frames.proofs.QueueLaws.{tab-none, bytesFrom, queue-next, queue-tail, queue-oldest}
+use Rattle.frames.proofs.QueueLaws.{bytesFrom, queue-next, queue-tail, queue-oldest}
 use Rattle.frames.proofs.ReadyLaws.{Ready}
 use Rattle.frames.specs.Step.{WriteDone}
 use Rattle.record.proofs.Held.{Listed, Held, held, together}
-use Rattle.record.proofs.SoundLaws.{seat-low}
+use Rattle.record.proofs.SeatLaws.{seat-low}
 use Rattle.record.specs.Meaning.{waits, notesOf, seatAt, committedOf, pendingFirst, currentFirst, stateOf}
 use Rattle.record.specs.declared.store.Changes.{Changes}
 use Rattle.record.specs.declared.store.Store.{Store}
@@ -27,6 +27,7 @@ oneDown g = record { count = g .count; taken = g .taken; down = g .down + 1; fra
 listed-out : (area blocks : ℕ) (g : Changes) → Listed area blocks g → Listed area blocks (oneDown g)
 listed-out area blocks g l = record { home = l .home; single = l .single; taken = l .taken; stands = λ k p q. l .stands k (omega arith) q }
 
+-- the record after the oldest pending frame is down, and after the oldest current one is; next is the head then
 abbrev pub pendingDown : Store → ℕ → Store
 pendingDown s next = record {
   frames = s .frames;

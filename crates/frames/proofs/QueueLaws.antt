@@ -1,59 +1,18 @@
 -- The queue of waiting frames, as a ring of memory frames.
 -- Assumes nothing.
-use Prim.Native.Nat.{ℕ, zero, suc, _+_, _-_, _≤_, _<_}
-use mathlib.Core.List.{List, [], tail}
-use mathlib.Core.Logic.{_⊎_, inl, inr, ⊎-elim}
+use Prim.Native.Nat.{ℕ, zero, suc, _+_, _-_, _*_, _≤_, _<_}
+use lib.ListN.{length, set}
+use mathlib.Core.List.{List, [], _∷_, _++_, tail}
+use mathlib.Core.Logic.{_≢_}
 use mathlib.Core.Path.{_≡_, refl, ap, sym, _∙_}
-use native.Mathlib.Nat.{add-zero}
 use native.Mathlib.Omega.{arith}
-use Rattle.card.proofs.AddressLaws.{here}
-use Rattle.card.specs.Block.{blockAt}
+use Rattle.card.proofs.BlockLaws.{put-length, put-same, put-other}
+use Rattle.card.proofs.BytesLaws.{tab-tail, tab-shift, tab-same, tab-add, tab-set}
+use Rattle.card.specs.Block.{blockAt, putBlock}
 use Rattle.card.specs.Bytes.{tabulate}
-use Rattle.record.proofs.SoundLaws.{seat-cases}
+use Rattle.record.proofs.SeatLaws.{seat-apiece, seat-fits, seat-here, seat-next}
 use Rattle.record.specs.Meaning.{seatAt}
 use Rattle.recovery.specs.Step.{oldestBytes}
-
-module _ (frames head : ℕ) (low : head < frames) where
-  pub seat-here : seatAt frames head 0 ≡ head
-  seat-here = ⊎-elim (λ e. omega (arith, e .1)) (λ e. absurd (omega (arith, e .0))) (seat-cases frames head 0)
-
-  -- the next one's turn
-  pub seat-next : (i : ℕ) → i < frames → seatAt frames (seatAt frames head 1) i ≡ seatAt frames head (i + 1)
-  seat-next i h = go (seat-cases frames head 1) (seat-cases frames (seatAt frames head 1) i) (seat-cases frames head (i + 1))
-    where
-      go : ((head + 1 < frames) × (seatAt frames head 1 ≡ head + 1)) ⊎ ((frames ≤ head + 1) × (seatAt frames head 1 + frames ≡ head + 1))
-          → ((seatAt frames head 1 + i < frames) × (seatAt frames (seatAt frames head 1) i ≡ seatAt frames head 1 + i))
-          ⊎ ((frames ≤ seatAt frames head 1 + i) × (seatAt frames (seatAt frames head 1) i + frames ≡ seatAt frames head 1 + i))
-          → ((head + (i + 1) < frames) × (seatAt frames head (i + 1) ≡ head + (i + 1))) ⊎ ((frames ≤ head + (i + 1)) × (seatAt frames head (i + 1) + frames ≡ head + (i + 1)))
-          → seatAt frames (seatAt frames head 1) i ≡ seatAt frames head (i + 1)
-      go (inl a) (inl b) (inl d) = omega (arith, a .1, b .1, d .1)
-      go (inl a) (inl b) (inr d) = omega (arith, a .0, a .1, b .0, b .1, d .0, d .1)
-      go (inl a) (inr b) (inl d) = omega (arith, a .0, a .1, b .0, b .1, d .0, d .1)
-      go (inl a) (inr b) (inr d) = omega (arith, a .0, a .1, b .0, b .1, d .0, d .1)
-      go (inr a) (inl b) (inl d) = omega (arith, a .0, a .1, b .0, b .1, d .0, d .1)
-      go (inr a) (inl b) (inr d) = omega (arith, a .0, a .1, b .0, b .1, d .0, d .1)
-      go (inr a) (inr b) (inl d) = omega (arith, a .0, a .1, b .0, b .1, d .0, d .1)
-      go (inr a) (inr b) (inr d) = omega (arith, a .0, a .1, b .0, b .1, d .0, d .1)
-
--- equal values at places that run along
-pub tab-shift : {A : Type 0} (f g : ℕ → A) (i j n : ℕ) → ((k : ℕ) → k < n → f (i + k) ≡ g (j + k)) → tabulate f i n ≡ tabulate g j n
-unfolding tabulate
-tab-shift f g i j zero h = refl
-tab-shift f g i j (suc n) h =
-    let here : f i ≡ g j = ap f (sym (add-zero i)) ∙ h 0 (omega arith) ∙ ap g (add-zero j) in
-    let there : (k : ℕ) → k < n → f (suc i + k) ≡ g (suc j + k) = λ k l. ap f (moved i k) ∙ h (suc k) (omega arith) ∙ ap g (sym (moved j k)) in
-    cc (here, tab-shift f g (suc i) (suc j) n there)
-  where
-    moved : (a b : ℕ) → suc a + b ≡ a + suc b
-    moved a b = omega arith
-
-pub tab-none : {A : Type 0} (f : ℕ → A) (i : ℕ) → tabulate f i 0 ≡ []
-unfolding tabulate
-tab-none f i = refl
-
-tab-tail : {A : Type 0} (f : ℕ → A) (i n : ℕ) → tail (tabulate f i (suc n)) ≡ tabulate f (suc i) n
-unfolding tabulate
-tab-tail f i n = refl
 
 -- the bytes of n that wait, from the i-th on
 abbrev pub bytesFrom : List ℕ → ℕ → ℕ → ℕ → ℕ → List (List ℕ)
@@ -78,3 +37,36 @@ pub queue-oldest : (m : List ℕ) (frames head n : ℕ) → head < frames → 0 
 unfolding oldestBytes tabulate
 queue-oldest m frames head zero low h = absurd (omega arith)
 queue-oldest m frames head (suc n) low h = ap (blockAt m) (seat-here frames head low)
+
+-- ---- bytes put into the memory frame of one turn
+
+-- `after` is m with b in the memory frame of that turn
+pub record Put (m b after : List ℕ) (frames head turn : ℕ) : Type 0 where
+  pub long : length m ≡ 512 * frames
+  pub whole : length b ≡ 512
+  pub low : head < frames
+  pub inside : turn < frames
+  pub put : after ≡ putBlock m (seatAt frames head turn) b
+
+module _ {m b after : List ℕ} {frames head turn : ℕ} (x : Put m b after frames head turn) where
+  fits : 512 * seatAt frames head turn + 512 ≤ length m
+  fits = seat-fits m frames head turn (seatAt frames head turn) (x .long) (x .low) (omega (arith, x .inside)) refl
+
+  there : blockAt after (seatAt frames head turn) ≡ b
+  there = rw (x .put) (put-same m (seatAt frames head turn) b (x .whole) fits)
+
+  elsewhere : (j : ℕ) → j < frames → j ≢ turn → blockAt after (seatAt frames head j) ≡ blockAt m (seatAt frames head j)
+  elsewhere j l d = rw (x .put) (put-other m (seatAt frames head turn) b (x .whole) fits (seatAt frames head j) (λ e. d (seat-apiece frames head j turn l (x .inside) e)))
+
+  pub put-long : length after ≡ length m
+  put-long = rw (x .put) (put-length m (seatAt frames head turn) b (x .whole) fits)
+
+  -- what waits before that turn, up to it, and over it
+  pub queue-kept : (i n : ℕ) → i + n ≤ turn → bytesFrom after frames head i n ≡ bytesFrom m frames head i n
+  queue-kept i n h = tab-same _ _ i n (λ j a l. elsewhere j (omega (arith, x .inside)) (omega arith))
+
+  pub queue-added : (i n : ℕ) → i + n ≡ turn → bytesFrom after frames head i (suc n) ≡ bytesFrom m frames head i n ++ (b ∷ [])
+  queue-added i n e = tab-add _ _ i n b (rw e there) (λ j a l. elsewhere j (omega (arith, x .inside)) (omega arith))
+
+  pub queue-again : (i n k : ℕ) → i + n ≤ frames → k < n → i + k ≡ turn → bytesFrom after frames head i n ≡ set (bytesFrom m frames head i n) k b
+  queue-again i n k h l e = tab-set _ _ i n k b l (rw e there) (λ j a c d. elsewhere j (omega arith) (rw (← e) d))

@@ -1,21 +1,22 @@
 -- What questions 1 to 3 tell once they are passed.
 -- Assumes nothing.
-use Prim.Native.Nat.{ℕ, _+_, _*_, _/_, _%_, _≤_, _<_}
-use borrow.Author.Tests.{leb-true, eqb-true, eqb-false, eq-eqb, ne-eqb}
-use lib.Dec.{leb, eqb}
+use Prim.Native.Nat.{ℕ, _+_, _*_, _/_, _≤_, _<_}
+use borrow.Author.Tests.{eqb-true, eqb-false, eq-eqb, ne-eqb}
+use lib.Dec.{eqb}
 use lib.ListN.{length}
 use mathlib.Core.Bool.{Bool, true, false, _&&_}
 use mathlib.Core.List.{List, [], _++_}
 use mathlib.Core.Logic.{_≢_, ⊎-elim}
 use mathlib.Core.Path.{_≡_, refl, sym}
 use native.Mathlib.Omega.{arith}
-use Rattle.card.proofs.QuestionLaws.{passed-both, group-yes, group-no}
-use Rattle.card.proofs.RingLaws.{on-in, ring-high, size-some}
+use Rattle.card.proofs.CheckpointLaws.{whole-tells}
+use Rattle.card.proofs.QuestionLaws.{passed-both, group-yes, group-no, groups-passed}
+use Rattle.card.proofs.RingLaws.{on-in, ring-high, size-above}
 use Rattle.card.proofs.Test.{both, le-or-lt}
 use Rattle.card.specs.Block.{whole}
 use Rattle.card.specs.Bytes.{All}
 use Rattle.card.specs.Question.{Question, firstNo}
-use Rattle.card.specs.Ring.{ringAt, generationSize}
+use Rattle.card.specs.Ring.{ringAt}
 use Rattle.frames.specs.Promise.{commonAsks}
 use Rattle.frames.specs.Step.{Writable}
 use Rattle.record.proofs.Held.{Held, held, bounds}
@@ -24,6 +25,7 @@ use Rattle.record.specs.Meaning.{sizeOf, committedSizeOf, pendingFirst, current
 use Rattle.record.specs.declared.store.Store.{Store}
 use Rattle.recovery.specs.Questions.{heldAsks}
 
+-- questions 1 to 3 as facts
 pub record Ready (s : Store) (memory card : ℕ) : Type 0 where
   pub together : holdsTogether s ≡ true
   pub memory-is : memory ≡ 512 * s .frames
@@ -34,26 +36,18 @@ pub record Ready (s : Store) (memory card : ℕ) : Type 0 where
 
 -- whole blocks, as many as are said
 pub whole-said : (low high n said : ℕ) → whole low high n ≡ true → eqb (n / 512) said ≡ whole low high n && eqb n (512 * said)
-unfolding whole
 whole-said low high n said h = rw h (go (eqb (n / 512) said) refl)
   where
-    e : n % 512 ≡ 0
-    e = eqb-true (n % 512) 0 (both (eqb (n % 512) 0) (leb low (n / 512) && leb (n / 512) high) h .0)
-
     go : (b : Bool) → eqb (n / 512) said ≡ b → b ≡ eqb n (512 * said)
-    go true q = let k : n / 512 ≡ said = eqb-true (n / 512) said q in sym (eq-eqb n (512 * said) (omega (arith, e, k)))
+    go true q = let k : n / 512 ≡ said = eqb-true (n / 512) said q in sym (eq-eqb n (512 * said) (omega (arith, whole-tells low high n h .0, k)))
     go false q = sym (ne-eqb n (512 * said) (λ k. eqb-false (n / 512) said q (omega (arith, k))))
 
 said-tells : (low high n said : ℕ) → whole low high n && eqb n (512 * said) ≡ true → (n ≡ 512 * said) × (low ≤ said) × (said ≤ high)
-unfolding whole
 said-tells low high n said h =
-    let q = both (eqb (n % 512) 0 && (leb low (n / 512) && leb (n / 512) high)) (eqb n (512 * said)) h in
-    let r = both (eqb (n % 512) 0) (leb low (n / 512) && leb (n / 512) high) (q .0) in
-    let b = both (leb low (n / 512)) (leb (n / 512) high) (r .1) in
+    let q = both (whole low high n) (eqb n (512 * said)) h in
+    let w = whole-tells low high n (q .0) in
     let e : n ≡ 512 * said = eqb-true n (512 * said) (q .1) in
-    let l : low ≤ n / 512 = leb-true low (n / 512) (b .0) in
-    let m : n / 512 ≤ high = leb-true (n / 512) high (b .1) in
-    (e, omega (arith, e, l), omega (arith, e, m))
+    (e, omega (arith, e, w .1 .0), omega (arith, e, w .1 .1))
 
 pub ready : (s : Store) (memory card : ℕ) → firstNo (commonAsks s memory card) ≡ 0 → Ready s memory card
 unfolding heldAsks
@@ -73,6 +67,9 @@ common-numbered s memory card = (omega arith, (omega arith, (omega arith, tt)))
 pub common-passed : (s : Store) (memory card : ℕ) (own : List Question) → firstNo (commonAsks s memory card) ≡ 0 → firstNo (commonAsks s memory card ++ own) ≡ firstNo own
 common-passed s memory card own h = group-yes (commonAsks s memory card) own (common-numbered s memory card) h
 
+pub common-both : (s : Store) (memory card : ℕ) (own : List Question) → firstNo (commonAsks s memory card ++ own) ≡ 0 → (firstNo (commonAsks s memory card) ≡ 0) × (firstNo own ≡ 0)
+common-both s memory card own h = groups-passed (commonAsks s memory card) own (common-numbered s memory card) h
+
 pub common-refused : (s : Store) (memory card : ℕ) (own : List Question) → firstNo (commonAsks s memory card) ≢ 0 → firstNo (commonAsks s memory card ++ own) ≡ firstNo (commonAsks s memory card)
 common-refused s memory card own h = group-no (commonAsks s memory card) own h
 
@@ -90,20 +87,18 @@ firsts s h = record {
 
 -- ---- every place lies in the area
 
-size-above : (p e : ℕ) → e ≢ 0 → p < generationSize p e
-size-above p e z = let l : 1 ≤ e = omega (arith, z) in omega (arith, size-some p e l)
-
+-- so do all places of the pending generation
 pub pending-short : (s : Store) → Held s → s .pending .taken ≤ s .geometry .area
 pending-short s h = ⊎-elim
     (λ e. let n : s .pending .taken ≡ 0 = h .none-pending (omega (arith, e)) in omega (arith, n))
-    (λ e. omega (arith, size-above (s .pending .taken) (s .pending .count) (λ z. omega (arith, z, e)), h .half-pending))
+    (λ e. omega (arith, size-above (s .pending .taken) (s .pending .count) e, h .half-pending))
     (le-or-lt (s .pending .count) 0)
 
 -- where one of the current generation waits
 pub current-short : (s : Store) → Held s → s .current .down < s .current .taken → s .current .taken ≤ s .geometry .area
 current-short s h l =
     let e = h .current .stands (s .current .down) (omega arith) l in
-    omega (arith, size-above (s .current .taken) (s .current .count) (λ z. omega (arith, z, e .1)), h .half-current)
+    omega (arith, size-above (s .current .taken) (s .current .count) (omega (arith, e .1)), h .half-current)
 
 -- a block of the area lies on the card
 pub area-block : (s : Store) (memory card : ℕ) → Ready s memory card → (first i to : ℕ) → first ≤ s .geometry .area → i ≤ s .geometry .area → to ≡ ringAt (s .geometry .area) first i

@@ -15,7 +15,8 @@ use Rattle.frames.proofs.WorldLaws.{Standing, done-keeps, idle, live, s
 use Rattle.frames.specs.Promise.{Lent, meaningOf, common, FrameCall, start, change, snapshot, pageOut, advance, FrameAnswer, done, asks, doneAnswer, doneWrite, outcome, FrameKept, Loads}
 use Rattle.frames.specs.Run.{told, FrameWorld, startLent, lentTo, FrameStep, called, cutWithin, cutBetween, FrameRun, stays, goes, firstWorld, Serves, FramesRecover, FramesPresent, FramesHold}
 use Rattle.record.specs.Meaning.{zeroStore}
-use Rattle.recovery.proofs.FrameTheorem.{Stored, Follows, accepted-stored, stored-accepts, reads-present, follows-sound}
+use Rattle.recovery.proofs.Follows.{Stored, Follows}
+use Rattle.recovery.proofs.FrameTheorem.{accepted-stored, stored-accepts, reads-present, follows-sound}
 use Rattle.recovery.specs.Book.{FrameBook, bookStart}
 use Rattle.recovery.specs.Questions.{startAsks}
 use Rattle.recovery.specs.Sound.{Sound}

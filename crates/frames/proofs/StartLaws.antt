@@ -4,7 +4,7 @@ use Prim.Native.Nat.{ℕ, _/_, _≤_, _<_}
 use borrow.Author.Tests.{ne-eqb}
 use lib.ListN.{length}
 use mathlib.Core.Bool.{true}
-use mathlib.Core.List.{List, [], _∷_, _++_}
+use mathlib.Core.List.{List, [], _∷_}
 use mathlib.Core.Path.{_≡_, refl, ap, sym, _∙_}
 use native.Mathlib.Decide.{ℕ-discrete}
 use native.Mathlib.Nat.{add-zero}
@@ -12,22 +12,21 @@ use native.Mathlib.Omega.{arith}
 use Rattle.card.proofs.BytesLaws.{tab-length}
 use Rattle.card.proofs.CheckpointLaws.{whole-tells, uncommitted-is, uncommitted-entries}
 use Rattle.card.proofs.DirectoryLaws.{entries-length}
-use Rattle.card.proofs.QuestionLaws.{passed-both, group-yes, group-no, fit-end, header-tells, trailer-tells}
+use Rattle.card.proofs.QuestionLaws.{passed-both, fit-end, header-tells, trailer-tells, groups-passed, header-numbered}
 use Rattle.card.proofs.RangeLaws.{geometry-tells}
 use Rattle.card.proofs.RingLaws.{size-some}
 use Rattle.card.specs.Block.{blockAt, whole}
-use Rattle.card.specs.Bytes.{All}
 use Rattle.card.specs.Checkpoint.{HeaderPassed}
 use Rattle.card.specs.Directory.{entriesOf, readDir}
 use Rattle.card.specs.Header.{headerOn}
-use Rattle.card.specs.Question.{Question, ask, firstNo, headerRanges, headerAsks, trailerFits, entriesFit, committedOn, entriesOn, generationAsks, cardAsks}
+use Rattle.card.specs.Question.{ask, firstNo, headerRanges, headerAsks, trailerFits, entriesFit, committedOn, entriesOn, generationAsks, cardAsks}
 use Rattle.card.specs.Range.{geometryFits}
 use Rattle.card.specs.Ring.{ringAt, half, generationSize}
 use Rattle.card.specs.declared.checkpoint.Checkpoint.{Checkpoint}
 use Rattle.card.specs.declared.trailer.Trailer.{Trailer}
-use Rattle.frames.proofs.MarkLaws.{none-means, none-size, none-listed}
 use Rattle.frames.specs.Step.{Startable, Started}
 use Rattle.record.proofs.Held.{Held, together}
+use Rattle.record.proofs.NoneLaws.{none-means, none-size, none-listed}
 use Rattle.record.proofs.SoundLaws.{committed-size}
 use Rattle.record.specs.Meaning.{waits, committedOf, pendingFirst, currentFirst, stateOf, NoChange}
 use Rattle.record.specs.declared.store.Changes.{Changes}
@@ -35,17 +34,9 @@ use Rattle.record.specs.declared.store.Store.{Store}
 use Rattle.recovery.specs.State.{committedSize, empty}
 use Rattle.recovery.specs.Step.{startCommitted, startState}
 
--- questions of two groups that are passed
-groups-passed : (ps qs : List Question) → All (λ (q : Question). 0 < q .number) ps → firstNo (ps ++ qs) ≡ 0 → (firstNo ps ≡ 0) × (firstNo qs ≡ 0)
-groups-passed ps qs n h = go (ℕ-discrete (firstNo ps) 0)
-  where
-    go : Dec (firstNo ps ≡ 0) → (firstNo ps ≡ 0) × (firstNo qs ≡ 0)
-    go (yes z) = (z, sym (group-yes ps qs n z) ∙ h)
-    go (no d) = absurd (d (sym (group-no ps qs d) ∙ h))
-
 -- the record of what was read, with p pending and q current
-abbrev recovered : List ℕ → List ℕ → Checkpoint → Changes → Changes → Store
-recovered memory card c p q = record {
+abbrev startStore : List ℕ → List ℕ → Checkpoint → Changes → Changes → Store
+startStore memory card c p q = record {
   frames = length memory / 512;
   head = 0;
   geometry = record { blocks = length card / 512; area = c .header .area; count = c .header .count; ranges = c .header .ranges };
@@ -76,10 +67,10 @@ module _ (memory card : List ℕ) (c : Checkpoint) (ok : Startable memory card c
   -- ---- what was asked
 
   asked : HeaderPassed card (c .header) × (firstNo (generationAsks card) ≡ 0)
-  unfolding cardAsks headerAsks
+  unfolding cardAsks
   asked =
       let q = passed-both 2 (whole 11 65536 (length card)) _ (sym (ok .read .number) ∙ ok .passed) in
-      let r = groups-passed (headerAsks (length card / 512) (headerOn (blockAt card 0))) (generationAsks card) (omega arith, (omega arith, (omega arith, tt))) (q .1) in
+      let r = groups-passed (headerAsks (length card / 512) (headerOn (blockAt card 0))) (generationAsks card) (header-numbered (length card / 512) (headerOn (blockAt card 0))) (q .1) in
       (record { card-whole = q .0; header-is = header-is; passed = rw header-is (r .0) }, r .1)
 
   -- of the committed generation, be there one or not
@@ -130,9 +121,9 @@ module _ (memory card : List ℕ) (c : Checkpoint) (ok : Startable memory card c
           }
 
   module _ (p q : Changes) (p-none : NoChange p) (q-none : NoChange q) where
-    recovered-meaning : stateOf (recovered memory card c p q) memory ≡ startState memory card
+    start-meaning : stateOf (startStore memory card c p q) memory ≡ startState memory card
     unfolding startState startCommitted
-    recovered-meaning = λ i. record {
+    start-meaning = λ i. record {
       blocks = length card / 512;
       area = header-is i .area;
       ranges = headerRanges (header-is i);
@@ -145,23 +136,23 @@ module _ (memory card : List ℕ) (c : Checkpoint) (ok : Startable memory card c
       current = current i;
     }
       where
-        committed : committedOf (recovered memory card c p q) ≡ startCommitted card
+        committed : committedOf (startStore memory card c p q) ≡ startCommitted card
         committed = λ i. record { first = trailer-is i .first; places = trailer-is i .pages; entries = entries-is i }
 
-        first : pendingFirst (recovered memory card c p q) ≡ ringAt (headerOn (blockAt card 0) .area) (startCommitted card .first) (committedSize (startCommitted card))
-        first = ap (λ (n : ℕ). ringAt (c .header .area) (c .trailer .first) n) (sym (committed-size (recovered memory card c p q))) ∙ λ i. ringAt (header-is i .area) (committed i .first) (committedSize (committed i))
+        first : pendingFirst (startStore memory card c p q) ≡ ringAt (headerOn (blockAt card 0) .area) (startCommitted card .first) (committedSize (startCommitted card))
+        first = ap (λ (n : ℕ). ringAt (c .header .area) (c .trailer .first) n) (sym (committed-size (startStore memory card c p q))) ∙ λ i. ringAt (header-is i .area) (committed i .first) (committedSize (committed i))
 
-        pending : stateOf (recovered memory card c p q) memory .pending ≡ empty (ringAt (headerOn (blockAt card 0) .area) (startCommitted card .first) (committedSize (startCommitted card)))
+        pending : stateOf (startStore memory card c p q) memory .pending ≡ empty (ringAt (headerOn (blockAt card 0) .area) (startCommitted card .first) (committedSize (startCommitted card)))
         pending = none-means p p-none _ 0 _ ∙ ap empty first
 
-        behind : currentFirst (recovered memory card c p q) ≡ pendingFirst (recovered memory card c p q)
+        behind : currentFirst (startStore memory card c p q) ≡ pendingFirst (startStore memory card c p q)
         behind = rw (none-size p p-none, add-zero) refl
 
-        current : stateOf (recovered memory card c p q) memory .current ≡ empty (ringAt (headerOn (blockAt card 0) .area) (startCommitted card .first) (committedSize (startCommitted card)))
+        current : stateOf (startStore memory card c p q) memory .current ≡ empty (ringAt (headerOn (blockAt card 0) .area) (startCommitted card .first) (committedSize (startCommitted card)))
         current = none-means q q-none _ (waits p) _ ∙ ap empty (behind ∙ first)
 
-    recovered-held : Held (recovered memory card c p q)
-    recovered-held =
+    start-held : Held (startStore memory card c p q)
+    start-held =
         let p-size = none-size p p-none in
         let q-size = none-size q q-none in
         let long = whole-tells 4 64 (length memory) (ok .memory-whole) in
@@ -192,5 +183,5 @@ module _ (memory card : List ℕ) (c : Checkpoint) (ok : Startable memory card c
           current = none-listed q q-none (c .header .area) (length card / 512);
         }
 
-    pub started : Started memory card (recovered memory card c p q)
-    started = record { meaning = recovered-meaning; together = together (recovered memory card c p q) recovered-held }
+    pub started : Started memory card (startStore memory card c p q)
+    started = record { meaning = start-meaning; together = together (startStore memory card c p q) start-held }

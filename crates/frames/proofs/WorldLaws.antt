@@ -1,7 +1,7 @@
 -- What a call or a cut in it leaves, of what a world may hold: a card, and a record that follows the book of frames or that of zeros.
 -- Assumes nothing.
-use Prim.Native.Nat.{ℕ, zero, suc, _*_, _/_, _%_}
-use borrow.Author.Tests.{le-leb, eq-eqb, ne-eqb}
+use Prim.Native.Nat.{ℕ, zero, suc, _*_, _/_}
+use borrow.Author.Tests.{eq-eqb, ne-eqb}
 use lib.Dec.{ltb, eqb}
 use lib.ListN.{length}
 use mathlib.Core.Bool.{true, false, _&&_, false≢true}
@@ -10,19 +10,22 @@ use mathlib.Core.Logic.{⊎-elim}
 use mathlib.Core.Option.{Option, none, some}
 use mathlib.Core.Path.{_≡_, refl, ap, sym, _∙_, subst}
 use native.Mathlib.Omega.{arith}
+use Rattle.card.proofs.CheckpointLaws.{whole-is}
 use Rattle.card.proofs.QuestionLaws.{none-asked, asked-yes, passed-both}
 use Rattle.card.proofs.Test.{byTest, joined}
 use Rattle.card.specs.Block.{whole}
 use Rattle.card.specs.Bytes.{All}
 use Rattle.card.specs.Question.{Question, firstNo}
 use Rattle.card.specs.Range.{Range}
-use Rattle.frames.proofs.ReadyLaws.{whole-said, ready, common-passed, common-refused}
+use Rattle.frames.proofs.ReadyLaws.{whole-said, ready, common-both}
 use Rattle.frames.specs.Promise.{Lent, meaningOf, common, FrameCall, start, change, snapshot, pageOut, advance, FrameAnswer, refused, asks, advanceAnswer, advanceWrite, advanced, doneAnswer, doneWrite, after, outcome, handedBack, FrameKept}
 use Rattle.frames.specs.Run.{told, CutBook, Asked}
 use Rattle.record.specs.Holds.{holdsTogether}
 use Rattle.record.specs.Meaning.{zeroStore}
 use Rattle.record.specs.declared.store.Store.{Store}
-use Rattle.recovery.proofs.FrameTheorem.{Stored, Follows, follows-stored, follows-card, stored-start, follows-change, follows-snapshot, follows-advance, follows-out, cut-out, cut-advance}
+use Rattle.recovery.proofs.Follows.{Stored, Follows, follows-stored, follows-card}
+use Rattle.recovery.proofs.FollowsStep.{follows-change, follows-snapshot, follows-advance, follows-out}
+use Rattle.recovery.proofs.FrameTheorem.{stored-start, cut-out, cut-advance}
 use Rattle.recovery.specs.Book.{FrameBook, WholeFrame}
 use Rattle.recovery.specs.Questions.{startAsks, heldAsks, roomAsks, snapshotAsks, pageOutAsks, given, advanceAsks}
 use Rattle.recovery.specs.State.{State}
@@ -59,23 +62,13 @@ zeros-refused l z h =
     let r = ready (l .store) (length (l .memory)) (length (l .card)) h in
     omega (arith, r .frames-low, ap (λ (s : Store). s .frames) z)
 
--- question 1
-abbrev Seated : ℕ → ℕ → Type 0
-Seated memory frames = whole 4 64 memory && eqb memory (512 * frames) ≡ true
+-- question 1: whole memory frames, as many as are said
+abbrev MemorySaid : ℕ → ℕ → Type 0
+MemorySaid memory frames = whole 4 64 memory && eqb memory (512 * frames) ≡ true
 
-common-seated : (l : Lent) → firstNo (common l) ≡ 0 → Seated (length (l .memory)) (l .store .frames)
+common-memory : (l : Lent) → firstNo (common l) ≡ 0 → MemorySaid (length (l .memory)) (l .store .frames)
 unfolding heldAsks
-common-seated l h = passed-both 0 (whole 4 64 (length (l .memory)) && eqb (length (l .memory)) (512 * l .store .frames)) _ h .0
-
-common-first : (l : Lent) (own : List Question) → firstNo (common l ++ own) ≡ 0 → firstNo (common l) ≡ 0
-common-first l own h = go (firstNo (common l)) refl
-  where
-    go : (n : ℕ) → firstNo (common l) ≡ n → firstNo (common l) ≡ 0
-    go zero e = e
-    go (suc k) e = absurd (omega (arith, e, h, common-refused (l .store) (length (l .memory)) (length (l .card)) own (λ z. omega (arith, e, z))))
-
-common-own : (l : Lent) (own : List Question) → firstNo (common l ++ own) ≡ 0 → firstNo own ≡ 0
-common-own l own h = sym (common-passed (l .store) (length (l .memory)) (length (l .card)) own (common-first l own h)) ∙ h
+common-memory l h = passed-both 0 (whole 4 64 (length (l .memory)) && eqb (length (l .memory)) (512 * l .store .frames)) _ h .0
 
 -- advance is asked whether a write is due
 due-some : (o : Option Kind) → given o ≡ true → (k : Kind) × (o ≡ some k)
@@ -130,14 +123,14 @@ module _ (blocks area : ℕ) (ranges : List Range) where
   LentOk advance l b = Standing blocks area ranges l b
 
   -- a record that follows the book passes questions 1 to 3 if it passes 1 and 2
-  follows-common : (l : Lent) (b : FrameBook) → Follows blocks area ranges (meaningOf l) (l .card) b → Seated (length (l .memory)) (l .store .frames) → holdsTogether (l .store) ≡ true
+  follows-common : (l : Lent) (b : FrameBook) → Follows blocks area ranges (meaningOf l) (l .card) b → MemorySaid (length (l .memory)) (l .store .frames) → holdsTogether (l .store) ≡ true
       → firstNo (common l) ≡ 0
-  unfolding heldAsks whole
+  unfolding heldAsks
   follows-common l b f first second =
       let q = follows-card blocks area ranges (meaningOf l) (l .card) b f in
       let is : l .store .geometry .blocks ≡ blocks = f .blocks-is in
       let long : length (l .card) ≡ 512 * l .store .geometry .blocks = omega (arith, q .0, is) in
-      let card-whole = joined _ _ (eq-eqb (length (l .card) % 512) 0 (omega (arith, long))) (joined _ _ (le-leb 11 (length (l .card) / 512) (omega (arith, q .0, q .1))) (le-leb (length (l .card) / 512) 65536 (omega (arith, q .0, q .2)))) in
+      let card-whole = whole-is 11 65536 blocks (length (l .card)) (q .0) (q .1) (q .2) in
       asked-yes 1 _ _ first ∙ asked-yes 2 _ _ second ∙ asked-yes 3 _ [] (joined _ _ card-whole (eq-eqb _ _ long)) ∙ none-asked
 
   -- ---- a call
@@ -160,7 +153,7 @@ module _ (blocks area : ℕ) (ranges : List Range) where
 
     -- done
     own-follows : (own : List Question) → Standing blocks area ranges l b → firstNo (common l ++ own) ≡ 0 → Follows blocks area ranges (meaningOf l) (l .card) b × (firstNo own ≡ 0)
-    own-follows own o h = (standing-follows l b o (common-first l own h), common-own l own h)
+    own-follows own o h = let q = common-both (l .store) (length (l .memory)) (length (l .card)) own h in (standing-follows l b o (q .0), q .1)
 
     lent-done : (c : FrameCall) → LentOk c l b → Asked c l → firstNo (asks c l) ≡ 0 → Follows blocks area ranges (after c l) (putDown (doneWrite c l) (l .card)) (told c (doneAnswer c l) b)
     unfolding asks after doneWrite doneAnswer told advanced advanceWrite advanceAnswer
@@ -180,18 +173,18 @@ module _ (blocks area : ℕ) (ranges : List Range) where
         let d = advance-due (meaningOf l) (q .1) in
         rw (d .1) (follows-advance blocks area ranges (meaningOf l) (l .card) b (q .0) (d .0) (d .1))
 
-    own-seated : (own : List Question) (n : ℕ) → n ≡ l .store .frames → firstNo (common l ++ own) ≡ 0 → Seated (length (l .memory)) n
-    own-seated own n e h = rw e (common-seated l (common-first l own h))
+    own-memory : (own : List Question) (n : ℕ) → n ≡ l .store .frames → firstNo (common l ++ own) ≡ 0 → MemorySaid (length (l .memory)) n
+    own-memory own n e h = rw e (common-memory l (common-both (l .store) (length (l .memory)) (length (l .card)) own h .0))
 
-    lent-seated : (c : FrameCall) → LentOk c l b → firstNo (asks c l) ≡ 0 → Seated (length (l .memory)) (after c l .memoryFrames)
+    lent-memory : (c : FrameCall) → LentOk c l b → firstNo (asks c l) ≡ 0 → MemorySaid (length (l .memory)) (after c l .memoryFrames)
     unfolding asks after startAsks startState afterChange afterSnapshot
-    lent-seated (start m) o h =
+    lent-memory (start m) o h =
         let w = passed-both 0 (whole 4 64 (length m)) _ h .0 in
         rw (o .0) (sym (whole-said 4 64 (length m) (length m / 512) w) ∙ eq-eqb (length m / 512) (length m / 512) refl)
-    lent-seated (change ws) o h = own-seated (roomAsks ws (meaningOf l)) _ refl h
-    lent-seated snapshot o h = own-seated (snapshotAsks (meaningOf l)) _ refl h
-    lent-seated pageOut o h = own-seated (pageOutAsks (meaningOf l)) _ (out-frames (meaningOf l)) h
-    lent-seated advance o h = own-seated (advanceAsks (meaningOf l)) _ (advanced-frames (advanceDue (meaningOf l)) (meaningOf l)) h
+    lent-memory (change ws) o h = own-memory (roomAsks ws (meaningOf l)) _ refl h
+    lent-memory snapshot o h = own-memory (snapshotAsks (meaningOf l)) _ refl h
+    lent-memory pageOut o h = own-memory (pageOutAsks (meaningOf l)) _ (out-frames (meaningOf l)) h
+    lent-memory advance o h = own-memory (advanceAsks (meaningOf l)) _ (advanced-frames (advanceDue (meaningOf l)) (meaningOf l)) h
 
     -- cut off: only advance writes a header
     lent-cut : (c : FrameCall) → LentOk c l b → firstNo (asks c l) ≡ 0 → (c′ : List ℕ) (b′ : FrameBook) → Left (doneWrite c l) (l .card) c′ → CutBook (doneWrite c l) c′ b b′
@@ -219,8 +212,9 @@ module _ (blocks area : ℕ) (ranges : List Range) where
       pub done-common : Asked c l → (l′ : Lent) (a : FrameAnswer) → FrameKept c l a l′ → firstNo (asks c l) ≡ 0 → firstNo (common l′) ≡ 0
       done-common asked l′ a p e =
           let frames-is : l′ .store .frames ≡ after c l .memoryFrames = ap (λ (s : State). s .memoryFrames) (p .meaning e) in
-          follows-common l′ (told c a b) (done-follows asked l′ a p e) (rw (p .long, frames-is) (lent-seated c o e)) (p .sound-is e)
+          follows-common l′ (told c a b) (done-follows asked l′ a p e) (rw (p .long, frames-is) (lent-memory c o e)) (p .sound-is e)
 
+      -- what a call hands back, and what a cut in it leaves
       pub called-ok : Asked c l → (l′ : Lent) (a : FrameAnswer) → FrameKept c l a l′ → Standing blocks area ranges l′ (told c a b)
       called-ok asked l′ a p = go (firstNo (asks c l)) refl
         where

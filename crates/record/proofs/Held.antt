@@ -9,13 +9,13 @@ use mathlib.Core.Logic.{_≢_, ⊎-elim}
 use mathlib.Core.Path.{_≡_, refl}
 use native.Mathlib.Omega.{arith}
 use Rattle.card.proofs.RangeLaws.{geometry-tells}
-use Rattle.card.proofs.RingLaws.{size-some}
+use Rattle.card.proofs.RingLaws.{size-some, entries-small}
 use Rattle.card.proofs.Test.{byTest, both, joined, le-or-lt}
 use Rattle.card.specs.Directory.{entriesOf}
 use Rattle.card.specs.Question.{entriesFit}
 use Rattle.card.specs.Range.{rangesOf, geometryFits}
 use Rattle.card.specs.Ring.{half}
-use Rattle.record.proofs.HoldTests.{entries-small, sizes-tell, none-told, some-told, committed-told, down-told, no-pending, any-pending, few-pending, current-told}
+use Rattle.record.proofs.HoldTests.{sizes-tell, none-told, some-told, committed-told, down-told, no-pending, any-pending, few-pending, current-told}
 use Rattle.record.proofs.Tests.{within-each, each-within, once-apart, apart-once, alone-stands, stands-alone, alone-each, each-alone}
 use Rattle.record.specs.Holds.{geometryHolds, committedHolds, pendingHolds, currentHolds, sizesHold, tailFor, orderHolds, memoryHolds, countsHold, spansHold, changesHold, holdsTogether}
 use Rattle.record.specs.Lists.{cells, once, allWithin}
@@ -63,6 +63,7 @@ module _ (area blocks : ℕ) (g : Changes) where
       let p = h .stands k a (omega arith) in
       stands-alone (λ i. getD (g .places) i 0) k 0 (g .count) (p .0, omega arith, omega (arith, p .1), p .2, λ j c d q. p .3 j (omega arith) q)))))
 
+-- question 2 as named facts
 pub record Held (s : Store) : Type 0 where
   pub geometry : geometryFits (s .geometry .blocks) (s .geometry .area) (rangesOf (s .geometry .ranges) (s .geometry .count)) ≡ true
   pub first-low : 1 ≤ s .first

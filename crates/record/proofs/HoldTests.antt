@@ -8,10 +8,10 @@ use mathlib.Core.Logic.{⊎-elim}
 use mathlib.Core.Path.{_≡_, sym, _∙_}
 use native.Mathlib.Omega.{arith}
 use Rattle.card.proofs.RangeLaws.{geometry-tells}
-use Rattle.card.proofs.RingLaws.{size-some}
+use Rattle.card.proofs.RingLaws.{entries-small}
 use Rattle.card.proofs.Test.{both, le-or-lt}
 use Rattle.card.specs.Range.{rangesOf}
-use Rattle.card.specs.Ring.{half, generationSize}
+use Rattle.card.specs.Ring.{half}
 use Rattle.record.specs.Holds.{geometryHolds, committedHolds, pendingHolds, currentHolds, sizesHold, countsHold, spansHold}
 use Rattle.record.specs.Meaning.{sizeOf, committedSizeOf}
 use Rattle.record.specs.declared.store.Store.{Store}
@@ -25,14 +25,7 @@ sum-leb a b c h = ⊎-elim
 
 -- ---- sizes
 
-pub size-none : (p e : ℕ) → e ≡ 0 → generationSize p e ≡ 0
-unfolding generationSize
-size-none p e h = rw (eq-eqb e 0 h)
-
--- a size that is small bounds the entries
-pub entries-small : (p e most : ℕ) → e ≤ p → generationSize p e ≤ most → e ≤ most
-entries-small p e most h k = ⊎-elim (λ l. omega (arith, size-some p e l)) (λ l. omega arith) (le-or-lt 1 e)
-
+-- that no stretch is above half the area, and all lie in it
 pub record Sizes (area a b c : ℕ) : Type 0 where
   pub half-a : a ≤ half area
   pub half-b : b ≤ half area
@@ -92,6 +85,7 @@ pub current-told : (p e down : ℕ) → currentHolds p e down ≡ true → (down
 unfolding currentHolds
 current-told p e down h = let a = both (leb e p) _ h in (leb-true down p (a .1), leb-true e p (a .0))
 
+-- that no count is above its places
 pub record Counts (s : Store) : Type 0 where
   pub area : s .geometry .area ≤ 512
   pub first : s .first ≤ s .geometry .area
@@ -123,6 +117,7 @@ counts-tell s e =
 
 -- ---- counts and sizes together
 
+-- that arrays of 256 have room
 pub record Small (s : Store) : Type 0 where
   pub area : s .geometry .area ≤ 512
   pub first : s .first ≤ s .geometry .area

@@ -3,4 +3,6 @@ pub mod ListLaws
 pub mod HoldTests
 pub mod Tests
 pub mod Held
+pub mod SeatLaws
+pub mod NoneLaws
 pub mod SoundLaws

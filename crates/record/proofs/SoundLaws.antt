@@ -1,64 +1,39 @@
 -- A record that holds together means a sound state, and its waiting frames have a memory frame apiece.
 -- Assumes nothing.
 use Prim.Native.Nat.{ℕ, zero, suc, _+_, _*_, _≤_, _<_}
-use borrow.Author.Tests.{ltb-true, ltb-false, eq-eqb, ne-eqb}
+use borrow.Author.Tests.{eq-eqb, ne-eqb}
 use lib.Dec.{ltb}
 use lib.ListN.{length, getD}
 use mathlib.Core.Bool.{true}
 use mathlib.Core.List.{List, [], _∷_, _++_}
-use mathlib.Core.Logic.{_≢_, _⊎_, inl, inr, ⊎-elim}
+use mathlib.Core.Logic.{_≢_, ⊎-elim}
 use mathlib.Core.Path.{_≡_, refl, ap, sym, _∙_}
 use native.Mathlib.Decide.{ℕ-discrete}
 use native.Mathlib.Nat.{zero-add}
 use native.Mathlib.Omega.{arith}
-use Rattle.card.proofs.AddressLaws.{all-tab}
+use Rattle.card.proofs.AllLaws.{all-tab, tab-all}
 use Rattle.card.proofs.BlockLaws.{block-length}
-use Rattle.card.proofs.BytesLaws.{tab-length, tab-getD}
+use Rattle.card.proofs.BytesLaws.{tab-length, tab-append, tab-getD}
 use Rattle.card.proofs.DirectoryLaws.{entries-length}
 use Rattle.card.proofs.RingLaws.{size-some}
 use Rattle.card.proofs.Test.{byTest, apart}
 use Rattle.card.specs.Block.{blockAt}
 use Rattle.card.specs.Bytes.{tabulate, All}
+use Rattle.card.specs.Directory.{entryIn, entriesOf}
 use Rattle.card.specs.Ring.{generationSize}
 use Rattle.card.specs.declared.directory.Entry.{Entry}
 use Rattle.record.proofs.Held.{Listed, Held, held}
-use Rattle.record.proofs.Tests.{tab-all, tab-append}
+use Rattle.record.proofs.SeatLaws.{seat-low, seat-apiece}
 use Rattle.record.specs.Holds.{tailFor, holdsTogether}
-use Rattle.record.specs.Meaning.{waits, sizeOf, noteIn, notesOf, committedSizeOf, seatAt, queueOf, generationOf, committedOf, pendingFirst, currentFirst, stateOf}
+use Rattle.record.specs.Meaning.{sizeOf, waits, noteIn, notesOf, committedSizeOf, seatAt, queueOf, generationOf, committedOf, pendingFirst, currentFirst, stateOf}
 use Rattle.record.specs.declared.store.Changes.{Changes}
 use Rattle.record.specs.declared.store.Store.{Store}
-use Rattle.recovery.proofs.Accept.{entries-told, told}
-use Rattle.recovery.proofs.ContentsLaws.{all-insertByFrame}
+use Rattle.recovery.proofs.Accept.{entries-told}
+use Rattle.recovery.proofs.ContentsLaws.{all-byFrame}
 use Rattle.recovery.specs.Book.{WholeFrame}
-use Rattle.recovery.specs.Directory.{Note, byFrame, downEntries, dirOf, frameOf, waitingFrom}
-use Rattle.recovery.specs.Sound.{Unnoted, Single, Holds, Ordered, Home, Sound, Seated}
+use Rattle.recovery.specs.Directory.{Note, downEntries, dirOf, frameOf, waitingFrom}
+use Rattle.recovery.specs.Sound.{Unnoted, Single, Holds, Ordered, Home, Between, Sound, Seated}
 use Rattle.recovery.specs.State.{places, size, committedSize, directoryOf, waitingFrames}
-
--- ---- memory frames
-
-module _ (frames head : ℕ) where
-  -- its two cases, as equations without subtraction
-  pub seat-cases : (i : ℕ) → ((head + i < frames) × (seatAt frames head i ≡ head + i)) ⊎ ((frames ≤ head + i) × (seatAt frames head i + frames ≡ head + i))
-  unfolding seatAt
-  seat-cases i = byTest (λ n. ((head + i < frames) × (n ≡ head + i)) ⊎ ((frames ≤ head + i) × (n + frames ≡ head + i))) (ltb (head + i) frames)
-      (λ e. inl (ltb-true _ _ e, refl))
-      (λ e. let h : frames ≤ head + i = ltb-false _ _ e in inr (h, omega arith))
-
-  pub seat-low : (i : ℕ) → head < frames → i ≤ frames → seatAt frames head i < frames
-  seat-low i h k = elim (seat-cases i) [ inl p ↦ omega arith | inr p ↦ omega arith ]
-
-  pub seat-apiece : (i j : ℕ) → i < frames → j < frames → seatAt frames head i ≡ seatAt frames head j → i ≡ j
-  seat-apiece i j a b e = elim (seat-cases i) [
-    | inl p ↦ elim (seat-cases j) [ inl q ↦ omega arith | inr q ↦ omega arith ]
-    | inr p ↦ elim (seat-cases j) [ inl q ↦ omega arith | inr q ↦ omega arith ]
-  ]
-
--- ---- entries that go to the card
-
-all-byFrame : (P : Entry → Type 0) (es : List Entry) → All P es → All P (byFrame es)
-unfolding byFrame
-all-byFrame P [] h = tt
-all-byFrame P (e ∷ es) h = all-insertByFrame P e (byFrame es) (h .0) (all-byFrame P es (h .1))
 
 -- ---- the notes of a generation
 
@@ -91,8 +66,8 @@ module _ {area blocks : ℕ} {g : Changes} (h : Listed area blocks g) where
       frame-at (g .frames) (g .places) k t 0 (g .count) (omega arith) (omega arith) e (λ j x y q. p .3 j (omega arith) q ∙ sym (p .3 t c e))
 
   -- two entries of one frame are one
-  pub one-entry : (i j : ℕ) → i < g .count → j < g .count → getD (g .frames) i 0 ≡ getD (g .frames) j 0 → i ≡ j
-  one-entry i j a b e = go (ℕ-discrete i j)
+  pub same-index : (i j : ℕ) → i < g .count → j < g .count → getD (g .frames) i 0 ≡ getD (g .frames) j 0 → i ≡ j
+  same-index i j a b e = go (ℕ-discrete i j)
     where
       go : Dec (i ≡ j) → i ≡ j
       go (yes q) = q
@@ -104,7 +79,7 @@ module _ {area blocks : ℕ} {g : Changes} (h : Listed area blocks g) where
       rw (frame-is k (p .0) a b (p .1) (p .2)) (
         all-tab (λ e. (e .frame ≡ getD (g .frames) (p .0) 0 → e .place ≡ k) × (e .place ≡ k → e .frame ≡ getD (g .frames) (p .0) 0)) (noteIn (g .frames) (g .places)) 0 (g .count)
             (λ j c d. (
-              λ q. ap (λ (i : ℕ). getD (g .places) i 0) (one-entry j (p .0) (omega arith) (p .1) q) ∙ p .2,
+              λ q. ap (λ (i : ℕ). getD (g .places) i 0) (same-index j (p .0) (omega arith) (p .1) q) ∙ p .2,
               λ q. ap (λ (i : ℕ). getD (g .frames) i 0) (p .3 j (omega arith) q),
             )),
         λ u. tab-all (λ e. getD (g .frames) (p .0) 0 ≢ e .frame) (noteIn (g .frames) (g .places)) 0 (g .count) u (p .0) (omega arith) (omega (arith, p .1)) refl,
@@ -195,6 +170,19 @@ module _ (s : Store) (h : Held s) where
         all-tab (λ x. length x ≡ 512) (λ k. blockAt m (seatAt (s .frames) (s .head) k)) i n
         (λ k a b. let c : seatAt (s .frames) (s .head) k < s .frames = seat-low (s .frames) (s .head) k (h .head-low) (omega arith) in block-length m (seatAt (s .frames) (s .head) k) (omega arith))
 
+-- a committed entry names a block of the area and a block of the card
+pub entry-inside : (s : Store) → Held s → (i : ℕ) → i < s .committed .count → (getD (s .committed .blocks) i 0 ≤ s .geometry .area) × (getD (s .committed .frames) i 0 < s .geometry .blocks)
+unfolding entriesOf
+entry-inside s h i l =
+    let area = s .geometry .area in
+    let blocks = s .geometry .blocks in
+    let f : ℕ → Entry = entryIn (s .committed .frames) (s .committed .blocks) in
+    let facts = entries-told blocks area (s .first) (s .pages) area (tabulate f 0 (s .committed .count)) (omega arith) (h .committed) in (
+      tab-all (Between area (s .first) 0 (s .pages)) f 0 (s .committed .count) (facts .1 .1 .0) i (omega arith) (omega arith) .1,
+      tab-all (Home area blocks) f 0 (s .committed .count) (facts .1 .0) i (omega arith) (omega arith) .1,
+    )
+
+-- the meaning of a record that passes question 2
 pub sound : (s : Store) (m : List ℕ) → holdsTogether s ≡ true → length m ≡ 512 * s .frames → Sound (stateOf s m)
 sound s m q long =
     let h = held s q in
@@ -232,6 +220,7 @@ sound s m q long =
       none-pending = λ z. (pending-places s h m ∙ h .none-pending (omega arith), no-tail s h (omega arith));
     }
 
+-- and its memory frames
 pub seated : (s : Store) (m : List ℕ) → holdsTogether s ≡ true → Seated (stateOf s m) m (seatAt (s .frames) (s .head))
 seated s m q =
     let h = held s q in

@@ -4,14 +4,13 @@ use Prim.Native.Nat.{ℕ, zero, suc, _+_, _≤_, _<_}
 use borrow.Author.Tests.{ltb-true, leb-true, eqb-false, not-true, lt-ltb, le-leb, eq-eqb, ne-eqb}
 use lib.Dec.{leb, ltb, eqb}
 use mathlib.Core.Bool.{Bool, true, false, cond, _&&_, false≢true}
-use mathlib.Core.List.{List, _∷_, _++_}
+use mathlib.Core.List.{List}
 use mathlib.Core.Logic.{_≢_}
 use mathlib.Core.Path.{_≡_, refl, ap, sym, _∙_}
 use native.Mathlib.Decide.{ℕ-discrete}
-use native.Mathlib.Nat.{add-zero, zero-add}
 use native.Mathlib.Omega.{arith}
 use Rattle.card.proofs.Test.{both, joined}
-use Rattle.card.specs.Bytes.{tabulate, All}
+use Rattle.card.specs.Bytes.{tabulate}
 use Rattle.record.specs.Lists.{elem, once, alone, allAlone, within, allWithin}
 
 -- ---- every index of a run
@@ -23,21 +22,6 @@ run P i n p q k a b = go (ℕ-discrete i k)
     go : Dec (i ≡ k) → P k
     go (yes e) = rw e at p
     go (no d) = q k (omega arith) (omega arith)
-
--- what holds of every value holds at each index
-pub tab-all : {A : Type 0} (P : A → Type 0) (f : ℕ → A) (i n : ℕ) → All P (tabulate f i n) → (k : ℕ) → i ≤ k → k < i + n → P (f k)
-unfolding tabulate
-tab-all P f i zero h = λ k a b. absurd (omega arith)
-tab-all P f i (suc n) h = run (λ k. P (f k)) i n (h .0) (tab-all P f (suc i) n (h .1))
-
--- two runs that adjoin are one
-pub tab-append : {A : Type 0} (f : ℕ → A) (i n k : ℕ) → tabulate f i n ++ tabulate f (i + n) k ≡ tabulate f i (n + k)
-unfolding tabulate
-tab-append f i zero k = rw (add-zero, zero-add)
-tab-append f i (suc n) k =
-    let e : suc n + k ≡ suc (n + k) = omega arith in
-    let d : i + suc n ≡ suc i + n = omega arith in
-    rw (e, d) (ap (λ l. f i ∷ l) (tab-append f (suc i) n k))
 
 -- ---- allWithin
 

@@ -1,17 +1,18 @@
 -- Start accepts a card exactly where the card is recoverable.
 -- Assumes nothing.
-use Prim.Native.Nat.{ℕ, zero, suc, _+_, _-_, _*_, _/_, _%_, _≤_, _<_}
+use Prim.Native.Nat.{ℕ, zero, suc, _+_, _-_, _*_, _/_, _≤_, _<_}
 use borrow.Author.Tests.{ltb-true, leb-true, eqb-true, lt-ltb, le-leb, eq-eqb, ne-eqb}
-use lib.Dec.{leb, ltb, eqb}
+use lib.Dec.{leb, ltb}
 use lib.ListN.{length}
 use mathlib.Core.Bool.{true}
 use mathlib.Core.List.{List, [], _∷_}
 use mathlib.Core.Path.{_≡_, refl, sym, _∙_}
 use native.Mathlib.Nat.{add-zero}
 use native.Mathlib.Omega.{arith}
+use Rattle.card.proofs.AllLaws.{all-map}
 use Rattle.card.proofs.BytesLaws.{tab-length}
-use Rattle.card.proofs.CheckpointLaws.{whole-tells}
-use Rattle.card.proofs.QuestionLaws.{none-asked, asked-yes, passed-both, HeaderTells, trailer-tells}
+use Rattle.card.proofs.CheckpointLaws.{whole-tells, whole-is}
+use Rattle.card.proofs.QuestionLaws.{none-asked, asked-yes, passed-both, HeaderTells, trailer-tells, header-numbered, groups-passed, header-tells}
 use Rattle.card.proofs.RangeLaws.{Geometry, geometry-tells}
 use Rattle.card.proofs.RingLaws.{on-in, size-some}
 use Rattle.card.proofs.Test.{both, joined}
@@ -20,11 +21,10 @@ use Rattle.card.specs.Bytes.{tabulate, All}
 use Rattle.card.specs.Directory.{readDir}
 use Rattle.card.specs.Header.{headerOn}
 use Rattle.card.specs.Question.{ask, firstNo, headerRanges, commitFits, headerAsks, endsAt, trailerFits, entriesFit, committedOn, entriesOn, generationAsks, cardAsks}
-use Rattle.card.specs.Range.{Range, geometryFits}
+use Rattle.card.specs.Range.{Range}
 use Rattle.card.specs.Ring.{ringOffset, dirBlocks, generationSize}
 use Rattle.card.specs.Trailer.{trailerOn}
 use Rattle.card.specs.declared.directory.Entry.{Entry}
-use Rattle.recovery.proofs.ContentsLaws.{all-map}
 use Rattle.recovery.proofs.Invariant.{Headed, Tail, Recoverable}
 use Rattle.recovery.proofs.SizeLaws.{quiet-size, empty-size}
 use Rattle.recovery.proofs.Sorted.{SortedGeneration, placesOf, countOf, sizeOf, sortedEmpty, trailerAt, sortedCommittedOn, recovered}
@@ -33,6 +33,7 @@ use Rattle.recovery.specs.Questions.{startAsks}
 use Rattle.recovery.specs.Sound.{Rising, Home, Between}
 use Rattle.recovery.specs.Step.{startCommitted}
 
+-- entries that lie where they may, by rising frame, pass question 8
 pub entries-ok : (blocks area first p low : ℕ) (es : List Entry) → All (λ e. low < e .frame) es → All (Home area blocks) es → All (Between area first 0 p) es → Rising es
     → entriesFit blocks area first p low es ≡ true
 unfolding entriesFit
@@ -73,11 +74,11 @@ module _ (blocks area : ℕ) (ranges : List Range) (commit : ℕ) (g : SortedGen
       ∙ none-asked)
 
   pub start-accepts : (m : List ℕ) → whole 4 64 (length m) ≡ true → firstNo (startAsks m c) ≡ 0
-  unfolding startAsks cardAsks headerAsks whole
+  unfolding startAsks cardAsks headerAsks
   start-accepts m memory =
       let blocks-is : length c / 512 ≡ blocks = omega (arith, k .whole) in
       asked-yes 1 _ _ memory
-      ∙ asked-yes 3 _ _ (joined _ _ (eq-eqb (length c % 512) 0 (omega (arith, k .whole))) (joined _ _ (le-leb 11 (length c / 512) (omega (arith, k .many))) (le-leb (length c / 512) 65536 (omega (arith, k .small)))))
+      ∙ asked-yes 3 _ _ (whole-is 11 65536 blocks (length c) (k .whole) (k .many) (k .small))
       ∙ asked-yes 4 _ _ (eq-eqb _ 1 (k .head .layout-is))
       ∙ asked-yes 5 _ _ (rw (blocks-is, k .head .area-is, k .head .ranges-is) (k .geo))
       ∙ asked-yes 6 _ _ (rw (k .head .commit-is, k .head .area-is) (commit-ok commit refl))
@@ -85,6 +86,7 @@ module _ (blocks area : ℕ) (ranges : List Range) (commit : ℕ) (g : SortedGen
 
 -- ---- an accepted card is recoverable
 
+-- what question 8 tells
 pub entries-told : (blocks area first p low : ℕ) (es : List Entry) → area ≤ low → entriesFit blocks area first p low es ≡ true
     → All (λ e. low < e .frame) es × (All (Home area blocks) es × (All (Between area first 0 p) es × Rising es))
 unfolding entriesFit
@@ -107,6 +109,7 @@ unfolding commitFits
 unset-told trailer area e = eqb-true trailer 0 e
 
 module _ (m c : List ℕ) (ok : firstNo (startAsks m c) ≡ 0) where
+  -- what questions 1 and 3 to 6 tell
   pub record Told : Type 0 where
     pub memory : whole 4 64 (length m) ≡ true
     pub whole-card : length c ≡ 512 * (length c / 512)
@@ -116,23 +119,14 @@ module _ (m c : List ℕ) (ok : firstNo (startAsks m c) ≡ 0) where
     pub rest : firstNo (generationAsks c) ≡ 0
 
   pub told : Told
-  unfolding startAsks cardAsks headerAsks
+  unfolding startAsks cardAsks
   told =
       let h = headerOn (blockAt c 0) in
-      let q1 = passed-both 0 (whole 4 64 (length m)) _ ok in
-      let q3 = passed-both 2 (whole 11 65536 (length c)) _ (q1 .1) in
-      let q4 = passed-both 3 (eqb (h .layout) 1) _ (q3 .1) in
-      let q5 = passed-both 4 (geometryFits (length c / 512) (h .area) (headerRanges h)) _ (q4 .1) in
-      let q6 = passed-both 5 (commitFits (h .commit) (h .trailer) (h .area)) _ (q5 .1) in
-      let w = whole-tells 11 65536 (length c) (q3 .0) in
-      record {
-        memory = q1 .0;
-        whole-card = w .0;
-        many = w .1 .0;
-        small = w .1 .1;
-        head = record { layout = eqb-true _ _ (q4 .0); geometry = q5 .0; commit = q6 .0 };
-        rest = q6 .1;
-      }
+      let q = passed-both 0 (whole 4 64 (length m)) _ ok in
+      let r = passed-both 2 (whole 11 65536 (length c)) _ (q .1) in
+      let w = whole-tells 11 65536 (length c) (r .0) in
+      let g = groups-passed (headerAsks (length c / 512) h) (generationAsks c) (header-numbered (length c / 512) h) (r .1) in
+      record { memory = q .0; whole-card = w .0; many = w .1 .0; small = w .1 .1; head = header-tells (length c / 512) h (g .0); rest = g .1 }
 
   abbrev Goal : SortedGeneration → Type 0
   Goal g = Recoverable (length c / 512) (headerOn (blockAt c 0) .area) (headerRanges (headerOn (blockAt c 0))) (headerOn (blockAt c 0) .commit) g c (overlay (storedFrames c (g .dir)) (blockAt c))

@@ -10,6 +10,7 @@ use mathlib.Core.Logic.{_≢_}
 use mathlib.Core.Path.{_≡_, refl, ap, sym, _∙_}
 use native.Mathlib.Decide.{ℕ-discrete}
 use native.Mathlib.Omega.{arith}
+use Rattle.card.proofs.AllLaws.{all-map}
 use Rattle.card.proofs.RangeLaws.{geometry-tells}
 use Rattle.card.proofs.RingLaws.{on-on}
 use Rattle.card.proofs.Test.{byTest}
@@ -21,9 +22,9 @@ use Rattle.card.specs.Question.{committedOn, entriesOn}
 use Rattle.card.specs.Range.{Range, geometryFits}
 use Rattle.card.specs.Ring.{ringAt}
 use Rattle.card.specs.declared.directory.Entry.{Entry}
-use Rattle.recovery.proofs.ContentsLaws.{overlay-base, overlay-hides, overlay-queueChange, once-queueChange, all-map, overlay-remove, all-remove, remove-absent, length-remove}
+use Rattle.recovery.proofs.ContentsLaws.{overlay-base, overlay-hides, overlay-queueChange, once-queueChange, overlay-remove, all-remove, remove-absent, length-remove}
 use Rattle.recovery.proofs.Invariant.{Headed, Tail, Recoverable, Invariant}
-use Rattle.recovery.proofs.SizeLaws.{size-none, empty-size, pagesDown-below, idle-dir, idle-waiting}
+use Rattle.recovery.proofs.SizeLaws.{idle-size, empty-size, pagesDown-below, idle-dir, idle-waiting}
 use Rattle.recovery.proofs.Sorted.{withoutFrame, queueChange, Once, Absent, SortedGeneration, countOf, sizeOf, Sorted, sortedEmpty, sortedCommittedOn, sortedStart, sortedRead, queueAll, withoutAll, sortedChange, sortedSnapshot}
 use Rattle.recovery.specs.Book.{FrameBook, markedOr, applyChanges, bookChange, bookSnapshot, bookStart, WholeFrame}
 use Rattle.recovery.specs.Contents.{Contents, FrameBytes, overlay, storedFrames}
@@ -50,6 +51,7 @@ overlay-again w q c es a f = overlay-queueChange w q _ f ∙ overlay-front w q _
     go (yes e) = overlay-hides (w ∷ []) _ _ f (λ n. n .0 e)
     go (no d) = overlay-base (w ∷ []) _ _ f (overlay-base q _ _ f (overlay-remove c (w .frame) es a f d))
 
+-- queued one after the other, changes show as the book has them
 pub overlay-all : (ws q : List FrameBytes) (c : List ℕ) (es : List Entry) (a : Contents) (f : ℕ) → overlay (queueAll ws q) (overlay (storedFrames c (withoutAll ws es)) a) f ≡ applyChanges ws (overlay q (overlay (storedFrames c es) a)) f
 unfolding queueAll withoutAll applyChanges
 overlay-all [] q c es a f = refl
@@ -107,6 +109,7 @@ apart-all (w ∷ ws) q es h = apart-all ws (queueChange w q) (withoutFrame (w .f
     (all-queueChange (λ v. Absent (v .frame) (withoutFrame (w .frame) es)) w q (remove-absent (w .frame) es)
     (all-map (λ v. Absent (v .frame) es) (λ v. Absent (v .frame) (withoutFrame (w .frame) es)) q (λ v a. all-remove (λ e. v .frame ≢ e .frame) (w .frame) es a) h))
 
+-- a change for which there is room
 pub call-change : (blocks : ℕ) (s : Sorted) (c : List ℕ) (b : FrameBook) (ws : List FrameBytes) → Invariant blocks s c b → All (WholeFrame (s .area) blocks) ws
     → sizeOf (sortedChange ws s .current) ≤ s .area / 2 → sizeOf (s .committed) + sizeOf (s .pending) + sizeOf (sortedChange ws s .current) ≤ s .area
     → length (s .pending .waiting) + length (sortedChange ws s .current .waiting) ≤ s .memoryFrames → Invariant blocks (sortedChange ws s) c (bookChange ws b)
@@ -142,14 +145,10 @@ call-change blocks s c b ws i frames half room seated =
 
 -- ---- a snapshot
 
-pub none-long : (ws : List FrameBytes) → length ws ≡ 0 → ws ≡ []
-none-long [] h = refl
-none-long (w ∷ ws) h = absurd (omega arith)
-
 pub call-mark : (blocks : ℕ) (s : Sorted) (c : List ℕ) (b : FrameBook) → Invariant blocks s c b → countOf (s .pending) ≡ 0 → s .commit < 4294967295 → Invariant blocks (sortedSnapshot s) c (bookSnapshot b)
 unfolding sortedSnapshot overlay storedFrames
 call-mark blocks s c b i idle under =
-    let none-size : sizeOf (s .pending) ≡ 0 = size-none (s .pending) idle in
+    let none-size : sizeOf (s .pending) ≡ 0 = idle-size (s .pending) idle in
     let no-dir : s .pending .dir ≡ [] = idle-dir (s .pending) idle in
     let no-wait : s .pending .waiting ≡ [] = idle-waiting (s .pending) idle in
     let lo : sizeOf (s .committed) + sizeOf (s .pending) ≡ sizeOf (s .committed) = omega arith in
@@ -179,9 +178,10 @@ call-mark blocks s c b i idle under =
 quiet-gen : (g : SortedGeneration) → g .waiting ≡ [] → g ≡ record { first = g .first; pagesDown = g .pagesDown; dir = g .dir; waiting = [] }
 quiet-gen g h = λ j. record { first = g .first; pagesDown = g .pagesDown; dir = g .dir; waiting = h j }
 
-pub committed-is : (blocks area : ℕ) (ranges : List Range) (commit : ℕ) (g : SortedGeneration) (c : List ℕ) (kept : Contents) → Recoverable blocks area ranges commit g c kept → sortedCommittedOn c ≡ g
+-- what a start reads of a recoverable card is its committed generation
+pub committed-read : (blocks area : ℕ) (ranges : List Range) (commit : ℕ) (g : SortedGeneration) (c : List ℕ) (kept : Contents) → Recoverable blocks area ranges commit g c kept → sortedCommittedOn c ≡ g
 unfolding sortedCommittedOn startCommitted committedOn entriesOn readDir tabulate
-committed-is blocks area ranges commit g c kept k = go commit refl
+committed-read blocks area ranges commit g c kept k = go commit refl
   where
     go : (m : ℕ) → commit ≡ m → sortedCommittedOn c ≡ g
     go zero e = rw (k .head .commit-is, e) (sym (k .fresh e))
@@ -193,7 +193,7 @@ committed-is blocks area ranges commit g c kept k = go commit refl
 pub start-ok : (blocks area : ℕ) (ranges : List Range) (commit : ℕ) (g : SortedGeneration) (c : List ℕ) (b : FrameBook) → Recoverable blocks area ranges commit g c (b .kept) → (memoryFrames : ℕ) → Invariant blocks (sortedStart memoryFrames c) c (bookStart b)
 unfolding sortedStart overlay storedFrames countOf
 start-ok blocks area ranges commit g c b k memoryFrames =
-    rw (k .head .area-is, committed-is blocks area ranges commit g c (b .kept) k, k .head .commit-is, k .head .ranges-is)
+    rw (k .head .area-is, committed-read blocks area ranges commit g c (b .kept) k, k .head .commit-is, k .head .ranges-is)
     (let nil : sizeOf (sortedEmpty (ringAt area (g .first) (sizeOf g))) ≡ 0 = empty-size (ringAt area (g .first) (sizeOf g)) in
     let sum : sizeOf g + sizeOf (sortedEmpty (ringAt area (g .first) (sizeOf g))) ≡ sizeOf g = omega arith in
     record {
@@ -226,6 +226,7 @@ read-present blocks s c b i f l h =
 
 -- ---- a formatted card
 
+-- a card with the header that a format writes
 pub format-ok : (blocks area : ℕ) (ranges : List Range) (c : List ℕ) → length c ≡ 512 * blocks → area < blocks → 11 ≤ blocks → blocks ≤ 65536
     → geometryFits blocks area ranges ≡ true → Headed c 0 area ranges → headerOn (blockAt c 0) .trailer ≡ 0 → Recoverable blocks area ranges 0 (sortedEmpty 1) c (blockAt c)
 unfolding overlay storedFrames

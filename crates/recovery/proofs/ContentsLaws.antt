@@ -1,21 +1,23 @@
--- Laws of layers.
+-- Laws of layers: waiting frames and directories laid over what lies below, and entries put in by frame or taken out.
 -- Assumes nothing.
-use Prim.Native.Nat.{ℕ, suc, _≤_}
-use borrow.Author.Tests.{eqb-true, eqb-false, ne-eqb}
+use Prim.Native.Nat.{ℕ, suc, _*_, _≤_, _<_}
+use borrow.Author.Tests.{eqb-true, eqb-false, eq-eqb, ne-eqb}
 use lib.Dec.{ltb, eqb}
 use lib.ListN.{length}
-use mathlib.Core.Bool.{Bool, true, false, cond}
+use mathlib.Core.Bool.{true, false, cond}
 use mathlib.Core.List.{List, [], _∷_}
 use mathlib.Core.Logic.{_≢_}
 use mathlib.Core.Path.{_≡_, refl, ap, sym, _∙_}
 use native.Mathlib.Omega.{arith}
-use Rattle.card.proofs.Test.{byTest}
-use Rattle.card.specs.Block.{blockAt}
+use Rattle.card.proofs.BlockLaws.{block-length}
+use Rattle.card.proofs.Test.{byTest, tests-swap, tests-twice}
+use Rattle.card.specs.Block.{blockAt, whole}
 use Rattle.card.specs.Bytes.{All}
 use Rattle.card.specs.declared.directory.Entry.{Entry}
-use Rattle.recovery.proofs.Sorted.{withoutFrame, queueChange, Without, Once, Absent}
+use Rattle.recovery.proofs.Sorted.{withoutFrame, queueChange, Without, Once, Absent, oldest}
 use Rattle.recovery.specs.Contents.{Contents, FrameBytes, overlay, storedFrames}
-use Rattle.recovery.specs.Directory.{insertByFrame}
+use Rattle.recovery.specs.Directory.{insertByFrame, byFrame}
+use Rattle.recovery.specs.Sound.{Between}
 
 -- the base counts only at the frame asked for
 pub overlay-base : (ws : List FrameBytes) (a b : Contents) (f : ℕ) → a f ≡ b f → overlay ws a f ≡ overlay ws b f
@@ -33,30 +35,25 @@ overlay-hides (w ∷ ws) a b f h =
       | false ↦ λ e. overlay-hides ws a b f (λ k. h (eqb-false f (w .frame) e, k))
     ] refl
 
--- two tests for different frames change places
-swap : (f g h : ℕ) (x y z : List ℕ) → g ≢ h → cond (eqb f g) x (cond (eqb f h) y z) ≡ cond (eqb f h) y (cond (eqb f g) x z)
-swap f g h x y z ne = go (eqb f g) (eqb f h) refl refl
-  where
-    go : (s t : Bool) → eqb f g ≡ s → eqb f h ≡ t → cond s x (cond t y z) ≡ cond t y (cond s x z)
-    go true true p q = absurd (ne (omega (arith, eqb-true f g p, eqb-true f h q)))
-    go true false p q = refl
-    go false true p q = refl
-    go false false p q = refl
-
--- of two tests for one frame the second never counts
-twice : (f g h : ℕ) (x y z : List ℕ) → g ≡ h → cond (eqb f g) x (cond (eqb f h) y z) ≡ cond (eqb f g) x z
-twice f g h x y z same = rw (← same) (go (eqb f g))
-  where
-    go : (s : Bool) → cond s x (cond s y z) ≡ cond s x z
-    go true = refl
-    go false = refl
+-- a queue that has not the frame shows what lies below
+pub overlay-without : (ws : List FrameBytes) (base : Contents) (f : ℕ) → Without f ws → overlay ws base f ≡ base f
+unfolding overlay
+overlay-without [] base f h = refl
+overlay-without (w ∷ ws) base f h = rw (ne-eqb f (w .frame) (h .0)) (overlay-without ws base f (h .1))
 
 -- a member whose frame stands once can be taken last
 pub overlay-last : (w : FrameBytes) (ws : List FrameBytes) (a : Contents) (f : ℕ) → Without (w .frame) ws → overlay (w ∷ ws) a f ≡ overlay ws (overlay (w ∷ []) a) f
 unfolding overlay
 overlay-last w [] a f h = refl
-overlay-last w (x ∷ xs) a f h = swap f (w .frame) (x .frame) (w .bytes) (x .bytes) (overlay xs a f) (h .0) ∙ ap (cond (eqb f (x .frame)) (x .bytes)) (overlay-last w xs a f (h .1))
+overlay-last w (x ∷ xs) a f h = tests-swap f (w .frame) (x .frame) (w .bytes) (x .bytes) (overlay xs a f) (h .0) ∙ ap (cond (eqb f (x .frame)) (x .bytes)) (overlay-last w xs a f (h .1))
 
+-- the first member is found
+pub overlay-first : (ws : List FrameBytes) (v : Contents) → 0 < length ws → overlay ws v (oldest ws .frame) ≡ oldest ws .bytes
+unfolding overlay oldest
+overlay-first [] v h = absurd (omega arith)
+overlay-first (w ∷ ws) v h = rw (eq-eqb (w .frame) (w .frame) refl)
+
+-- an entry put in by frame shows as one put in front
 pub overlay-insertByFrame : (c : List ℕ) (e : Entry) (es : List Entry) (a : Contents) (f : ℕ) → overlay (storedFrames c (insertByFrame e es)) a f ≡ overlay (storedFrames c (e ∷ es)) a f
 unfolding overlay storedFrames insertByFrame
 overlay-insertByFrame c e [] a f = refl
@@ -64,17 +61,18 @@ overlay-insertByFrame c e (x ∷ xs) a f =
     byTest (λ l. overlay (storedFrames c l) a f ≡ overlay (storedFrames c (e ∷ x ∷ xs)) a f) (ltb (e .frame) (x .frame))
     (λ p. refl)
     (λ p. byTest (λ l. overlay (storedFrames c l) a f ≡ overlay (storedFrames c (e ∷ x ∷ xs)) a f) (eqb (e .frame) (x .frame))
-    (λ q. sym (twice f (e .frame) (x .frame) _ _ _ (eqb-true _ _ q)))
+    (λ q. sym (tests-twice f (e .frame) (x .frame) _ _ _ (eqb-true _ _ q)))
     (λ q. ap (cond (eqb f (x .frame)) (blockAt c (x .block))) (overlay-insertByFrame c e xs a f)
-    ∙ sym (swap f (e .frame) (x .frame) _ _ _ (eqb-false _ _ q))))
+    ∙ sym (tests-swap f (e .frame) (x .frame) _ _ _ (eqb-false _ _ q))))
 
+-- so does a change that joins the queue
 pub overlay-queueChange : (w : FrameBytes) (ws : List FrameBytes) (a : Contents) (f : ℕ) → overlay (queueChange w ws) a f ≡ overlay (w ∷ ws) a f
 unfolding overlay queueChange
 overlay-queueChange w [] a f = refl
 overlay-queueChange w (x ∷ xs) a f =
     byTest (λ l. overlay l a f ≡ overlay (w ∷ x ∷ xs) a f) (eqb (w .frame) (x .frame))
-    (λ q. sym (twice f (w .frame) (x .frame) _ _ _ (eqb-true _ _ q)))
-    (λ q. ap (cond (eqb f (x .frame)) (x .bytes)) (overlay-queueChange w xs a f) ∙ sym (swap f (w .frame) (x .frame) _ _ _ (eqb-false _ _ q)))
+    (λ q. sym (tests-twice f (w .frame) (x .frame) _ _ _ (eqb-true _ _ q)))
+    (λ q. ap (cond (eqb f (x .frame)) (x .bytes)) (overlay-queueChange w xs a f) ∙ sym (tests-swap f (w .frame) (x .frame) _ _ _ (eqb-false _ _ q)))
 
 -- the queue still names each frame once
 pub without-queueChange : (g : ℕ) (w : FrameBytes) (ws : List FrameBytes) → g ≢ w .frame → Without g ws → Without g (queueChange w ws)
@@ -99,18 +97,28 @@ all-insertByFrame P e (x ∷ xs) p h =
     byTest (All P) (ltb (e .frame) (x .frame)) (λ q. (p, h))
     (λ q. byTest (All P) (eqb (e .frame) (x .frame)) (λ r. (p, h .1)) (λ r. (h .0, all-insertByFrame P e xs p (h .1))))
 
-pub all-map : {A : Type 0} (P Q : A → Type 0) (xs : List A) → ((x : A) → P x → Q x) → All P xs → All Q xs
-all-map P Q [] f h = tt
-all-map P Q (x ∷ xs) f h = (f x (h .0), all-map P Q xs f (h .1))
+pub all-byFrame : (P : Entry → Type 0) (es : List Entry) → All P es → All P (byFrame es)
+unfolding byFrame
+all-byFrame P [] h = tt
+all-byFrame P (e ∷ es) h = all-insertByFrame P e (byFrame es) (h .0) (all-byFrame P es (h .1))
 
--- a directory none of whose blocks is n reads the same after a write of n
+-- a directory whose blocks hold the same bytes shows the same
 pub storedFrames-same : (c d : List ℕ) (es : List Entry) → All (λ e. blockAt d (e .block) ≡ blockAt c (e .block)) es → storedFrames d es ≡ storedFrames c es
 unfolding storedFrames
 storedFrames-same c d [] h = refl
 storedFrames-same c d (e ∷ es) h = cc (h .0, storedFrames-same c d es (h .1))
 
+-- a directory whose blocks lie in the area shows a block for each frame of the card
+pub overlay-long : (c : List ℕ) (es : List Entry) (area first lo hi blocks f : ℕ) → length c ≡ 512 * blocks → area < blocks → All (Between area first lo hi) es → f < blocks
+    → length (overlay (storedFrames c es) (blockAt c) f) ≡ 512
+unfolding overlay storedFrames
+overlay-long c [] area first lo hi blocks f whole home h l = block-length c f (omega arith)
+overlay-long c (e ∷ es) area first lo hi blocks f whole home h l = byTest (λ (x : List ℕ). length x ≡ 512) (eqb f (e .frame))
+    (λ q. block-length c (e .block) (omega (arith, h .0 .1))) (λ q. overlay-long c es area first lo hi blocks f whole home (h .1) l)
+
 -- ---- an entry removed
 
+-- other frames show as before
 pub overlay-remove : (c : List ℕ) (f : ℕ) (es : List Entry) (a : Contents) (x : ℕ) → x ≢ f → overlay (storedFrames c (withoutFrame f es)) a x ≡ overlay (storedFrames c es) a x
 unfolding overlay storedFrames withoutFrame
 overlay-remove c f [] a x d = refl
@@ -141,7 +149,3 @@ length-insertByFrame-new e [] h = refl
 length-insertByFrame-new e (x ∷ xs) h =
     byTest (λ (l : List Entry). length l ≡ suc (suc (length xs))) (ltb (e .frame) (x .frame)) (λ p. refl)
     (λ p. rw (ne-eqb (e .frame) (x .frame) (h .0)) (ap suc (length-insertByFrame-new e xs (h .1))))
-
-pub all-both : {A : Type 0} (P Q R : A → Type 0) (xs : List A) → ((x : A) → P x → Q x → R x) → All P xs → All Q xs → All R xs
-all-both P Q R [] f h k = tt
-all-both P Q R (x ∷ xs) f h k = (f x (h .0) (k .0), all-both P Q R xs f (h .1) (k .1))

@@ -1,20 +1,22 @@
--- Laws of a generation: a page-out, a change, and entries that are home.
+-- Laws of a sorted generation: a page-out of it, and entries that are home.
 -- Assumes nothing.
 use Prim.Native.Nat.{ℕ, zero, suc, _+_, _≤_, _<_}
 use borrow.Author.Tests.{ltb-true, ltb-false, eqb-true, eqb-false, eq-eqb, ne-eqb}
 use lib.Dec.{ltb, eqb}
-use lib.ListN.{length, take, getD}
+use lib.ListN.{length, getD}
 use mathlib.Core.Bool.{true, false, cond}
 use mathlib.Core.List.{List, [], _∷_, tail}
 use mathlib.Core.Logic.{_≢_}
 use mathlib.Core.Path.{_≡_, refl, ap, sym, _∙_}
 use native.Mathlib.Omega.{arith}
+use Rattle.card.proofs.AllLaws.{all-at, all-map, all-both}
+use Rattle.card.proofs.BytesLaws.{length-tail}
 use Rattle.card.proofs.Test.{byTest}
 use Rattle.card.specs.Block.{blockAt}
 use Rattle.card.specs.Bytes.{All}
 use Rattle.card.specs.Ring.{ringAt, ringOffset}
 use Rattle.card.specs.declared.directory.Entry.{Entry}
-use Rattle.recovery.proofs.ContentsLaws.{overlay-base, overlay-last, overlay-insertByFrame, all-insertByFrame, all-map, all-both}
+use Rattle.recovery.proofs.ContentsLaws.{overlay-base, overlay-last, overlay-insertByFrame, all-insertByFrame}
 use Rattle.recovery.proofs.Invariant.{GenerationFits}
 use Rattle.recovery.proofs.SizeLaws.{oldest-first}
 use Rattle.recovery.proofs.Sorted.{Without, Once, Absent, SortedGeneration, countOf, oldest, pagedOut}
@@ -62,12 +64,8 @@ unfolding overlay storedFrames
 overlay-at c [] i base none r h = absurd (omega arith)
 overlay-at c (e ∷ es) zero base none r h = rw (eq-eqb (e .frame) (e .frame) refl)
 overlay-at c (e ∷ es) (suc i) base none r h =
-    rw (ne-eqb (getD es i none .frame) (e .frame) (later es i (omega arith) (r .0))) (overlay-at c es i base none (r .1) (omega arith))
-  where
-    later : (xs : List Entry) (k : ℕ) → k < length xs → All (λ x. e .frame < x .frame) xs → getD xs k none .frame ≢ e .frame
-    later [] k l a = absurd (omega arith)
-    later (x ∷ xs) zero l a = omega arith
-    later (x ∷ xs) (suc k) l a = later xs k (omega arith) (a .1)
+    let later : e .frame < getD es i none .frame = all-at (λ x. e .frame < x .frame) es i none (r .0) (omega arith) in
+    rw (ne-eqb (getD es i none .frame) (e .frame) (omega arith)) (overlay-at c es i base none (r .1) (omega arith))
 
 -- where every entry is home, so is what the view shows
 pub home-kept : (c : List ℕ) (es : List Entry) (base kept : Contents) (f : ℕ) → All (λ e. base (e .frame) ≡ kept (e .frame)) es
@@ -80,29 +78,8 @@ home-kept c (e ∷ es) base kept f h =
       | false ↦ λ q v. home-kept c es base kept f (h .1) v
     ] refl
 
--- an entry is found among its own
-pub named-at : (es : List Entry) (i : ℕ) (none : Entry) → i < length es → All (λ e. getD es i none .frame ≢ e .frame) es → ⊥
-named-at [] i none h a = omega arith
-named-at (e ∷ es) zero none h a = a .0 refl
-named-at (e ∷ es) (suc i) none h a = named-at es i none (omega arith) (a .1)
-
-pub all-at : {A : Type 0} (P : A → Type 0) (xs : List A) (i : ℕ) (none : A) → All P xs → i < length xs → P (getD xs i none)
-all-at P [] i none a h = absurd (omega arith)
-all-at P (x ∷ xs) zero none a h = a .0
-all-at P (x ∷ xs) (suc i) none a h = all-at P xs i none (a .1) (omega arith)
-
-pub all-first : {A : Type 0} (P : A → Type 0) (n : ℕ) (xs : List A) → All P xs → All P (take n xs)
-all-first P zero xs a = tt
-all-first P (suc n) [] a = tt
-all-first P (suc n) (x ∷ xs) a = (a .0, all-first P n xs (a .1))
-
-pub all-next : {A : Type 0} (P : A → Type 0) (n : ℕ) (xs : List A) (none : A) → All P (take n xs) → P (getD xs n none) → All P (take (suc n) xs)
-all-next P zero [] none a p = tt
-all-next P zero (x ∷ xs) none a p = (p, tt)
-all-next P (suc n) [] none a p = tt
-all-next P (suc n) (x ∷ xs) none a p = (a .0, all-next P n xs none (a .1) p)
-
 module _ (blocks area first lo : ℕ) (g : SortedGeneration) (ok : GenerationFits blocks area first lo g) (some : 0 < length (g .waiting)) where
+  -- of the oldest waiting frame, and of the others
   pub out-held : WholeFrame area blocks (oldest (g .waiting)) × All (WholeFrame area blocks) (tail (g .waiting))
   out-held = rw (oldest-first (g .waiting) some) at (ok .held)
 
@@ -112,6 +89,7 @@ module _ (blocks area first lo : ℕ) (g : SortedGeneration) (ok : GenerationFit
   pub out-apart : Absent (oldest (g .waiting) .frame) (g .dir) × All (λ w. Absent (w .frame) (g .dir)) (tail (g .waiting))
   out-apart = rw (oldest-first (g .waiting) some) at (ok .apart)
 
+  -- put down at its next place, it still fits
   pub pagedOut-ok : 1 ≤ ringAt area (g .first) (g .pagesDown) → ringAt area (g .first) (g .pagesDown) ≤ area
       → ringOffset area first (ringAt area (g .first) (g .pagesDown)) ≡ lo + g .pagesDown → GenerationFits blocks area first lo (pagedOut area g)
   unfolding pagedOut countOf
@@ -134,7 +112,7 @@ module _ (blocks area first lo : ℕ) (g : SortedGeneration) (ok : GenerationFit
 
   pub pagedOut-length : suc (length (pagedOut area g .waiting)) ≡ length (g .waiting)
   unfolding pagedOut
-  pagedOut-length = sym (ap length (oldest-first (g .waiting) some))
+  pagedOut-length = length-tail (g .waiting) some
 
   pub pagedOut-pagesDown : pagedOut area g .pagesDown ≡ suc (g .pagesDown)
   unfolding pagedOut

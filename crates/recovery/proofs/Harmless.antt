@@ -7,6 +7,7 @@ use mathlib.Core.Logic.{_≢_}
 use mathlib.Core.Path.{_≡_, ap, _∙_}
 use native.Mathlib.Decide.{ℕ-discrete}
 use native.Mathlib.Omega.{arith}
+use Rattle.card.proofs.AllLaws.{all-map}
 use Rattle.card.proofs.BlockLaws.{put-length, put-other}
 use Rattle.card.proofs.DirectoryLaws.{readDir-same}
 use Rattle.card.proofs.RingLaws.{on-in, from-on}
@@ -15,7 +16,7 @@ use Rattle.card.specs.Bytes.{All}
 use Rattle.card.specs.Range.{Range}
 use Rattle.card.specs.Ring.{ringAt, ringOffset, dirBlocks}
 use Rattle.card.specs.declared.directory.Entry.{Entry}
-use Rattle.recovery.proofs.ContentsLaws.{overlay-base, overlay-hides, all-map, storedFrames-same}
+use Rattle.recovery.proofs.ContentsLaws.{overlay-base, overlay-hides, storedFrames-same}
 use Rattle.recovery.proofs.Invariant.{Tail, Recoverable}
 use Rattle.recovery.proofs.SizeLaws.{quiet-size, pagesDown-below}
 use Rattle.recovery.proofs.Sorted.{Without, SortedGeneration, sizeOf, trailerAt}
@@ -58,6 +59,7 @@ module _ (blocks area : ℕ) (ranges : List Range) (commit : ℕ) (g : SortedGen
   head-same : blockAt (putBlock c n x) 0 ≡ blockAt c 0
   head-same = other 0 (omega (arith, harmless-low blocks area g n (k .home) harmless))
 
+  -- what the committed directory names stands
   pub committed-same : storedFrames (putBlock c n x) (g .dir) ≡ storedFrames c (g .dir)
   committed-same = storedFrames-same c (putBlock c n x) (g .dir)
       (all-map (Between area (g .first) 0 (g .pagesDown)) (λ e. blockAt (putBlock c n x) (e .block) ≡ blockAt c (e .block)) (g .dir)
@@ -83,6 +85,7 @@ module _ (blocks area : ℕ) (ranges : List Range) (commit : ℕ) (g : SortedGen
   same-view f l h (yes d) (moving p q r) =
       overlay-hides (storedFrames c (g .dir)) (blockAt (putBlock c n x)) (blockAt c) f (λ w. r (rw d at (without-storedFrames c f (g .dir) w)))
 
+  -- whatever bytes the block has, the card shows what it did
   pub harmless-write : Recoverable blocks area ranges commit g (putBlock c n x) kept
   harmless-write = record {
     whole = put-length c n x long fit ∙ k .whole;

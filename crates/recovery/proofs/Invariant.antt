@@ -1,4 +1,23 @@
--- What holds of the card alone, and of the store with its card and the book.
+-- The crash invariant.
+--
+-- Of a card alone (`Recoverable`):
+--   1. It has as many blocks as its geometry says, and the geometry passes question 5.
+--   2. The header says layout 1, the commit number, the area and the ranges.
+--   3. With commit 0 nothing is committed: the trailer block is 0, there is no entry, and the first stretch starts at block 1.
+--   4. With commit above 0 the header names the committed generation's trailer, and trailer and directory read back as its numbers and entries.
+--   5. Committed entries rise, name home frames, and have their blocks among the p page blocks of a stretch of at most half the area.
+--   6. Every home frame's kept bytes are at its entry's block, or at home where it has none.
+-- With a state and the book (`Invariant`):
+--   7. The card is such a one, with the state's committed generation.
+--   8. The three stretches follow each other, each at most half the area, together at most the area.
+--   9. Of the pending and the current generation (`GenerationFits`): what is down rises, names home frames, and lies in its own stretch below what is not down;
+--      what waits are whole home frames, each once, and none of them is among those down.
+--  10. All that waits fits memory.
+--  11. If one is pending, the commit number has a next.
+--  12. What is down of the pending directory and trailer is what will be read back, and none of it is down while a pending frame waits.
+--  13. Committed entries that are copied home are at home as kept.
+--  14. Pending over kept is marked, or kept where nothing is marked.
+--  15. Current over that is present.
 -- Assumes nothing.
 use Prim.Native.Nat.{ℕ, suc, _+_, _*_, _/_, _≤_, _<_}
 use lib.ListN.{length, take}
@@ -34,26 +53,26 @@ pub record Tail (c : List ℕ) (area commit : ℕ) (g : SortedGeneration) : Type
 
 -- a card that shows kept when it is started
 pub record Recoverable (blocks area : ℕ) (ranges : List Range) (commit : ℕ) (g : SortedGeneration) (c : List ℕ) (kept : Contents) : Type 0 where
-  pub whole : length c ≡ 512 * blocks
-  pub home : area < blocks
-  pub many : 11 ≤ blocks
-  pub small : blocks ≤ 65536
-  pub geo : geometryFits blocks area ranges ≡ true
-  pub low : 1 ≤ g .first
-  pub high : g .first ≤ area
-  pub fits : sizeOf g ≤ area
-  pub quiet : g .waiting ≡ []
-  pub inside : All (Between area (g .first) 0 (g .pagesDown)) (g .dir)
-  pub named : All (Home area blocks) (g .dir)
-  pub rising : Rising (g .dir)
-  pub half : sizeOf g ≤ area / 2
-  pub few : length (g .dir) ≤ g .pagesDown
-  pub any : 1 ≤ g .pagesDown → 1 ≤ countOf g
-  pub head : Headed c commit area ranges
-  pub unset : commit ≡ 0 → headerOn (blockAt c 0) .trailer ≡ 0
-  pub fresh : commit ≡ 0 → g ≡ sortedEmpty 1
-  pub there : 0 < commit → Tail c area commit g
-  pub view : (f : ℕ) → area < f → f < blocks → overlay (storedFrames c (g .dir)) (blockAt c) f ≡ kept f
+  pub whole : length c ≡ 512 * blocks  -- 1
+  pub home : area < blocks  -- 1
+  pub many : 11 ≤ blocks  -- 1
+  pub small : blocks ≤ 65536  -- 1
+  pub geo : geometryFits blocks area ranges ≡ true  -- 1
+  pub low : 1 ≤ g .first  -- 5
+  pub high : g .first ≤ area  -- 5
+  pub fits : sizeOf g ≤ area  -- 5
+  pub quiet : g .waiting ≡ []  -- 5
+  pub inside : All (Between area (g .first) 0 (g .pagesDown)) (g .dir)  -- 5
+  pub named : All (Home area blocks) (g .dir)  -- 5
+  pub rising : Rising (g .dir)  -- 5
+  pub half : sizeOf g ≤ area / 2  -- 5
+  pub few : length (g .dir) ≤ g .pagesDown  -- 5
+  pub any : 1 ≤ g .pagesDown → 1 ≤ countOf g  -- 5
+  pub head : Headed c commit area ranges  -- 2
+  pub unset : commit ≡ 0 → headerOn (blockAt c 0) .trailer ≡ 0  -- 3
+  pub fresh : commit ≡ 0 → g ≡ sortedEmpty 1  -- 3
+  pub there : 0 < commit → Tail c area commit g  -- 4
+  pub view : (f : ℕ) → area < f → f < blocks → overlay (storedFrames c (g .dir)) (blockAt c) f ≡ kept f  -- 6
 
 -- a generation whose stretch starts lo places on from first
 pub record GenerationFits (blocks area first lo : ℕ) (g : SortedGeneration) : Type 0 where
@@ -66,20 +85,21 @@ pub record GenerationFits (blocks area first lo : ℕ) (g : SortedGeneration) : 
   pub held : All (WholeFrame area blocks) (g .waiting)
   pub apart : All (λ w. Absent (w .frame) (g .dir)) (g .waiting)
 
+-- a state, by its sorted form, with its card and the book
 pub record Invariant (blocks : ℕ) (s : Sorted) (c : List ℕ) (b : FrameBook) : Type 0 where
-  pub recoverable : Recoverable blocks (s .area) (s .ranges) (s .commit) (s .committed) c (b .kept)
-  pub half-pending : sizeOf (s .pending) ≤ s .area / 2
-  pub half-current : sizeOf (s .current) ≤ s .area / 2
-  pub seated : length (s .pending .waiting) + length (s .current .waiting) ≤ s .memoryFrames
-  pub pending-ok : GenerationFits blocks (s .area) (s .committed .first) (sizeOf (s .committed)) (s .pending)
-  pub current-ok : GenerationFits blocks (s .area) (s .committed .first) (sizeOf (s .committed) + sizeOf (s .pending)) (s .current)
-  pub pending-first : s .pending .first ≡ ringAt (s .area) (s .committed .first) (sizeOf (s .committed))
-  pub current-first : s .current .first ≡ ringAt (s .area) (s .committed .first) (sizeOf (s .committed) + sizeOf (s .pending))
-  pub room : sizeOf (s .committed) + sizeOf (s .pending) + sizeOf (s .current) ≤ s .area
-  pub limit : 0 < countOf (s .pending) → s .commit < 4294967295
-  pub tailDown-fits : s .pending .pagesDown + s .tailDown ≤ sizeOf (s .pending)
-  pub tailDown-after : 0 < s .tailDown → s .pending .waiting ≡ []
-  pub tailDown-ok : (j : ℕ) → j < s .tailDown → blockAt c (ringAt (s .area) (s .pending .first) (s .pending .pagesDown + j)) ≡ tailBlock (suc (s .commit)) (s .pending) j
-  pub migrated-ok : All (λ e. blockAt c (e .frame) ≡ b .kept (e .frame)) (take (s .migrated) (s .committed .dir))
-  pub mark : (f : ℕ) → s .area < f → f < blocks → overlay (s .pending .waiting) (overlay (storedFrames c (s .pending .dir)) (b .kept)) f ≡ markedOr b f
-  pub now : (f : ℕ) → s .area < f → f < blocks → overlay (s .current .waiting) (overlay (storedFrames c (s .current .dir)) (markedOr b)) f ≡ b .present f
+  pub recoverable : Recoverable blocks (s .area) (s .ranges) (s .commit) (s .committed) c (b .kept)  -- 7
+  pub half-pending : sizeOf (s .pending) ≤ s .area / 2  -- 8
+  pub half-current : sizeOf (s .current) ≤ s .area / 2  -- 8
+  pub seated : length (s .pending .waiting) + length (s .current .waiting) ≤ s .memoryFrames  -- 10
+  pub pending-ok : GenerationFits blocks (s .area) (s .committed .first) (sizeOf (s .committed)) (s .pending)  -- 9
+  pub current-ok : GenerationFits blocks (s .area) (s .committed .first) (sizeOf (s .committed) + sizeOf (s .pending)) (s .current)  -- 9
+  pub pending-first : s .pending .first ≡ ringAt (s .area) (s .committed .first) (sizeOf (s .committed))  -- 8
+  pub current-first : s .current .first ≡ ringAt (s .area) (s .committed .first) (sizeOf (s .committed) + sizeOf (s .pending))  -- 8
+  pub room : sizeOf (s .committed) + sizeOf (s .pending) + sizeOf (s .current) ≤ s .area  -- 8
+  pub limit : 0 < countOf (s .pending) → s .commit < 4294967295  -- 11
+  pub tailDown-fits : s .pending .pagesDown + s .tailDown ≤ sizeOf (s .pending)  -- 12
+  pub tailDown-after : 0 < s .tailDown → s .pending .waiting ≡ []  -- 12
+  pub tailDown-ok : (j : ℕ) → j < s .tailDown → blockAt c (ringAt (s .area) (s .pending .first) (s .pending .pagesDown + j)) ≡ tailBlock (suc (s .commit)) (s .pending) j  -- 12
+  pub migrated-ok : All (λ e. blockAt c (e .frame) ≡ b .kept (e .frame)) (take (s .migrated) (s .committed .dir))  -- 13
+  pub mark : (f : ℕ) → s .area < f → f < blocks → overlay (s .pending .waiting) (overlay (storedFrames c (s .pending .dir)) (b .kept)) f ≡ markedOr b f  -- 14
+  pub now : (f : ℕ) → s .area < f → f < blocks → overlay (s .current .waiting) (overlay (storedFrames c (s .current .dir)) (markedOr b)) f ≡ b .present f  -- 15

@@ -17,7 +17,9 @@ pub mod PlaceLaws
 pub mod WaitLaws
 pub mod OrderedLaws
 pub mod Accept
-pub mod FrameTheorem
 pub mod SumLaws
 pub mod RoomLaws
+pub mod Follows
+pub mod FollowsStep
+pub mod FrameTheorem
 pub mod Trace

@@ -5,18 +5,20 @@ use borrow.Author.Tests.{ltb-true, ltb-false, eqb-true, eqb-false, lt-ltb, le-lt
 use lib.Dec.{ltb, eqb}
 use lib.ListN.{length, set, length-append, length-set}
 use mathlib.Core.Bool.{Bool, true, false, cond}
-use mathlib.Core.List.{List, [], _∷_, _++_, tail}
+use mathlib.Core.List.{List, [], _∷_, _++_}
 use mathlib.Core.Logic.{_≢_}
 use mathlib.Core.Option.{Option, none, some}
 use mathlib.Core.Path.{_≡_, refl, ap, sym, _∙_, subst}
 use native.Mathlib.Decide.{ℕ-discrete}
 use native.Mathlib.Omega.{arith}
+use Rattle.card.proofs.AllLaws.{all-map, all-both}
+use Rattle.card.proofs.BytesLaws.{length-tail}
 use Rattle.card.proofs.Test.{byTest}
 use Rattle.card.specs.Bytes.{All}
 use Rattle.card.specs.declared.directory.Entry.{Entry}
-use Rattle.recovery.proofs.ContentsLaws.{all-map, length-insertByFrame-new}
+use Rattle.recovery.proofs.ContentsLaws.{length-insertByFrame-new}
 use Rattle.recovery.proofs.NoteLaws.{lookup-byFrame}
-use Rattle.recovery.proofs.PlaceLaws.{skip, dir-change, dir-out}
+use Rattle.recovery.proofs.PlaceLaws.{lookup-other, dir-change, dir-out}
 use Rattle.recovery.proofs.SizeLaws.{pagedOut-count}
 use Rattle.recovery.proofs.Sorted.{withoutFrame, queueChange, Absent, lookup, SortedGeneration, placesOf, countOf, sizeOf, sortedGeneration, oldest, pagedOut, queueAll, withoutAll}
 use Rattle.recovery.proofs.WaitLaws.{length-waiting, wait-same, wait-last, queue-new, wait-without, wait-again, frame-new, frame-other}
@@ -45,7 +47,7 @@ module _ (area first : ℕ) where
     where
       go : Dec (f ≡ e .frame) → lookup f (downEntries area first put es) ≡ 0 → lookup f (downEntries area first put (e ∷ es)) ≡ 0
       go (yes q) rec = rw (le-ltb (e .place) put (omega (arith, h .0 .0 (sym q)))) rec
-      go (no d) rec = skip area first put f e es d ∙ rec
+      go (no d) rec = lookup-other area first put f e es d ∙ rec
 
   waits-absent : (put f : ℕ) (es : List Note) → Holds f put es → Absent f (dirOf area first put es)
   unfolding dirOf
@@ -59,7 +61,7 @@ module _ (area first : ℕ) where
     where
       go : (xs : List Note) → Unnoted f xs → lookup f (downEntries area first put xs) ≡ 0
       go [] k = unfold downEntries lookup in refl
-      go (e ∷ xs) k = skip area first put f e xs (k .0) ∙ go xs (k .1)
+      go (e ∷ xs) k = lookup-other area first put f e xs (k .0) ∙ go xs (k .1)
 
   length-down : (put : ℕ) (es : List Note) → Single es → All (λ e. e .place < put) es → length (dirOf area first put es) ≡ length es
   unfolding dirOf downEntries byFrame
@@ -75,6 +77,7 @@ unfolding outOf pagedOut directoryOf waitingFrames waitingFrom oldest
 out-same area first put es x xs h n = λ i. record { first = first; pagesDown = suc put; dir = dir-out area first put (frameOf put es) es h n i; waiting = waitingFrom es (suc put) xs }
 
 module _ (area : ℕ) where
+  -- a page-out is one of the sorted form
   pub sorted-out : (g : Generation) → Ordered g → 0 < length (g .waiting) → sortedGeneration area (outOf g) ≡ pagedOut area (sortedGeneration area g)
   sorted-out g o k = go (g .waiting) refl
     where
@@ -96,13 +99,9 @@ module _ (area : ℕ) where
       go [] = refl
       go (x ∷ xs) = refl
 
-tail-length : (xs : List (List ℕ)) → 0 < length xs → suc (length (tail xs)) ≡ length xs
-tail-length [] h = absurd (omega arith)
-tail-length (x ∷ xs) h = refl
-
 pub out-places : (g : Generation) → 0 < length (g .waiting) → places (outOf g) ≡ places g
 unfolding places outOf
-out-places g h = omega (arith, tail-length (g .waiting) h)
+out-places g h = omega (arith, length-tail (g .waiting) h)
 
 pub out-ordered : (g : Generation) → Ordered g → 0 < length (g .waiting) → Ordered (outOf g)
 unfolding outOf
@@ -112,7 +111,7 @@ out-ordered g o h =
 
 out-waiting : (g : Generation) → 0 < length (g .waiting) → suc (length (outOf g .waiting)) ≡ length (g .waiting)
 unfolding outOf
-out-waiting g h = tail-length (g .waiting) h
+out-waiting g h = length-tail (g .waiting) h
 
 next-taken : (g : Generation) → 0 < length (g .waiting) → g .pagesDown < places g
 unfolding places
@@ -121,6 +120,9 @@ next-taken g h = omega arith
 pub long-waiting : (g : Generation) → length (waitingFrames g) ≡ length (g .waiting)
 unfolding waitingFrames
 long-waiting g = length-waiting (g .entries) (g .pagesDown) (g .waiting)
+
+pub some-waiting : (g : Generation) → 0 < length (g .waiting) → 0 < length (waitingFrames g)
+some-waiting g h = omega (arith, long-waiting g)
 
 -- ---- e and the size
 
@@ -152,6 +154,7 @@ module _ (area : ℕ) where
   count-go zero g h o = count-none g h o
   count-go (suc n) g h o = count-out g (omega arith) o (count-go n (outOf g) (omega (arith, out-waiting g (omega arith))) (out-ordered g o (omega arith)))
 
+  -- the sorted form has as many entries, and the same size
   pub same-count : (g : Generation) → Ordered g → entryCount g ≡ countOf (sortedGeneration area g)
   same-count g o = count-go (length (g .waiting)) g refl o
 
@@ -222,12 +225,12 @@ holds-new : (f p : ℕ) (es : List Note) → Single es → All (λ e. e .place <
 unfolding noteChange
 holds-new f p [] s h = (((λ k. refl), (λ k. refl)), tt)
 holds-new f p (e ∷ es) s h = byTest (Holds f p) (eqb f (e .frame))
-    (λ q. (((λ k. refl), (λ k. refl)), all-both′ es (s .0) (h .1) q))
+    (λ q. (
+      ((λ k. refl), (λ k. refl)),
+      all-both (λ x. e .frame ≢ x .frame) (λ x. x .place < p) (λ x. (x .frame ≡ f → x .place ≡ p) × (x .place ≡ p → x .frame ≡ f)) es
+          (λ x a l. ((λ k. absurd (a (sym (k ∙ eqb-true f (e .frame) q)))), (λ k. absurd (omega arith)))) (s .0) (h .1),
+    ))
     (λ q. (((λ k. absurd (eqb-false f (e .frame) q (sym k))), (λ k. absurd (omega (arith, h .0)))), holds-new f p es (s .1) (h .1)))
-  where
-    all-both′ : (xs : List Note) → Unnoted (e .frame) xs → All (λ x. x .place < p) xs → eqb f (e .frame) ≡ true → Holds f p xs
-    all-both′ [] a b q = tt
-    all-both′ (x ∷ xs) a b q = (((λ k. absurd (a .0 (sym (k ∙ eqb-true f (e .frame) q)))), (λ k. absurd (omega (arith, b .0)))), all-both′ xs (a .1) (b .1) q)
 
 noted : (f p : ℕ) (es : List Note) → Unnoted f (noteChange (record { frame = f; place = p }) es) → ⊥
 unfolding noteChange
@@ -334,6 +337,7 @@ module _ (area : ℕ) (w : FrameBytes) (g : Generation) (o : Ordered g) where
       go none e = change-new e
       go (some i) e = change-again i e
 
+-- changes are changes of the sorted form
 pub change-many : (area : ℕ) (ws : List FrameBytes) (g : Generation) → Ordered g → Ordered (changeFrames ws g) × (sortedGeneration area (changeFrames ws g) ≡ record {
   first = g .first;
   pagesDown = g .pagesDown;

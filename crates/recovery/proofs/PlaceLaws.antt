@@ -40,23 +40,24 @@ same-test a n d = go (decLt a n)
 
 module _ (area first : ℕ) where
   -- a head that is not of frame x does not count
-  pub skip : (put x : ℕ) (e : Note) (es : List Note) → x ≢ e .frame → lookup x (downEntries area first put (e ∷ es)) ≡ lookup x (downEntries area first put es)
+  pub lookup-other : (put x : ℕ) (e : Note) (es : List Note) → x ≢ e .frame → lookup x (downEntries area first put (e ∷ es)) ≡ lookup x (downEntries area first put es)
   unfolding downEntries lookup
-  skip put x e es d = byTest (λ l. lookup x l ≡ lookup x (downEntries area first put es)) (ltb (e .place) put) (λ q. rw (ne-eqb x (e .frame) d)) (λ q. refl)
+  lookup-other put x e es d = byTest (λ l. lookup x l ≡ lookup x (downEntries area first put es)) (ltb (e .place) put) (λ q. rw (ne-eqb x (e .frame) d)) (λ q. refl)
 
-  -- nor does one that waits
-  pub waits : (put x : ℕ) (e : Note) (es : List Note) → put ≤ e .place → lookup x (downEntries area first put (e ∷ es)) ≡ lookup x (downEntries area first put es)
+  -- nor does one that lookup-waiting
+  pub lookup-waiting : (put x : ℕ) (e : Note) (es : List Note) → put ≤ e .place → lookup x (downEntries area first put (e ∷ es)) ≡ lookup x (downEntries area first put es)
   unfolding downEntries
-  waits put x e es h = rw (le-ltb (e .place) put h)
+  lookup-waiting put x e es h = rw (le-ltb (e .place) put h)
 
-  pub is-down : (put : ℕ) (e : Note) (es : List Note) → e .place < put → lookup (e .frame) (downEntries area first put (e ∷ es)) ≡ suc (ringAt area first (e .place))
+  -- one that is down, of this frame
+  pub lookup-down : (put : ℕ) (e : Note) (es : List Note) → e .place < put → lookup (e .frame) (downEntries area first put (e ∷ es)) ≡ suc (ringAt area first (e .place))
   unfolding downEntries lookup
-  is-down put e es h = rw (lt-ltb (e .place) put h, eq-eqb (e .frame) (e .frame) refl)
+  lookup-down put e es h = rw (lt-ltb (e .place) put h, eq-eqb (e .frame) (e .frame) refl)
 
   lookup-none : (put x : ℕ) (es : List Note) → Unnoted x es → lookup x (downEntries area first put es) ≡ 0
   unfolding lookup downEntries
   lookup-none put x [] h = refl
-  lookup-none put x (e ∷ es) h = skip put x e es (h .0) ∙ lookup-none put x es (h .1)
+  lookup-none put x (e ∷ es) h = lookup-other put x e es (h .0) ∙ lookup-none put x es (h .1)
 
   cons-same : (m n x : ℕ) (e : Note) (xs ys : List Note) → ltb (e .place) m ≡ ltb (e .place) n → lookup x (downEntries area first m xs) ≡ lookup x (downEntries area first n ys)
       → lookup x (downEntries area first m (e ∷ xs)) ≡ lookup x (downEntries area first n (e ∷ ys))
@@ -68,20 +69,20 @@ module _ (area first : ℕ) where
       go true = ap (cond (eqb x (e .frame)) (suc (ringAt area first (e .place)))) k
       go false = k
 
-  -- ---- a frame that takes a place which is not down waits
+  -- ---- a frame that takes a place which is not down lookup-waiting
 
   change-hit : (put f n : ℕ) (es : List Note) → put ≤ n → Single es → lookup f (downEntries area first put (noteChange (record { frame = f; place = n }) es)) ≡ 0
   unfolding noteChange
-  change-hit put f n [] h s = waits put f (record { frame = f; place = n }) [] h ∙ lookup-none put f [] tt
+  change-hit put f n [] h s = lookup-waiting put f (record { frame = f; place = n }) [] h ∙ lookup-none put f [] tt
   change-hit put f n (e ∷ es) h s = byTest (λ l. lookup f (downEntries area first put l) ≡ 0) (eqb f (e .frame))
-      (λ q. waits put f (record { frame = f; place = n }) es h ∙ lookup-none put f es (rw (← (eqb-true f (e .frame) q)) at (s .0)))
-      (λ q. skip put f e _ (eqb-false f (e .frame) q) ∙ change-hit put f n es h (s .1))
+      (λ q. lookup-waiting put f (record { frame = f; place = n }) es h ∙ lookup-none put f es (rw (← (eqb-true f (e .frame) q)) at (s .0)))
+      (λ q. lookup-other put f e _ (eqb-false f (e .frame) q) ∙ change-hit put f n es h (s .1))
 
   change-miss : (put x f n : ℕ) (es : List Note) → x ≢ f → lookup x (downEntries area first put (noteChange (record { frame = f; place = n }) es)) ≡ lookup x (downEntries area first put es)
   unfolding noteChange
-  change-miss put x f n [] d = skip put x (record { frame = f; place = n }) [] d
+  change-miss put x f n [] d = lookup-other put x (record { frame = f; place = n }) [] d
   change-miss put x f n (e ∷ es) d = byTest (λ l. lookup x (downEntries area first put l) ≡ lookup x (downEntries area first put (e ∷ es))) (eqb f (e .frame))
-      (λ q. skip put x (record { frame = f; place = n }) es d ∙ sym (skip put x e es (λ k. d (k ∙ sym (eqb-true f (e .frame) q)))))
+      (λ q. lookup-other put x (record { frame = f; place = n }) es d ∙ sym (lookup-other put x e es (λ k. d (k ∙ sym (eqb-true f (e .frame) q)))))
       (λ q. cons-same put put x e (noteChange (record { frame = f; place = n }) es) es refl (change-miss put x f n es d))
 
   -- ---- the frame whose place is the next is put down
@@ -93,8 +94,8 @@ module _ (area first : ℕ) where
       go : Dec (e .frame ≡ f) → ((Unnoted f es → ⊥) → lookup f (downEntries area first (suc put) es) ≡ suc (ringAt area first put)) → lookup f (downEntries area first (suc put) (e ∷ es)) ≡ suc (ringAt area first put)
       go (yes q) rec =
           let at : e .place ≡ put = h .0 .0 q in
-          rw (← q) (is-down (suc put) e es (omega arith) ∙ ap (λ (k : ℕ). suc (ringAt area first k)) at)
-      go (no d) rec = skip (suc put) f e es (λ k. d (sym k)) ∙ rec (λ a. n (λ k. d (sym k), a))
+          rw (← q) (lookup-down (suc put) e es (omega arith) ∙ ap (λ (k : ℕ). suc (ringAt area first k)) at)
+      go (no d) rec = lookup-other (suc put) f e es (λ k. d (sym k)) ∙ rec (λ a. n (λ k. d (sym k), a))
 
   out-miss : (put x f : ℕ) (es : List Note) → Holds f put es → x ≢ f → lookup x (downEntries area first (suc put) es) ≡ lookup x (downEntries area first put es)
   unfolding downEntries
@@ -104,11 +105,12 @@ module _ (area first : ℕ) where
       go : Dec (e .frame ≡ f) → lookup x (downEntries area first (suc put) es) ≡ lookup x (downEntries area first put es) → lookup x (downEntries area first (suc put) (e ∷ es)) ≡ lookup x (downEntries area first put (e ∷ es))
       go (yes q) rec =
           let n : x ≢ e .frame = λ k. d (k ∙ q) in
-          skip (suc put) x e es n ∙ rec ∙ sym (skip put x e es n)
+          lookup-other (suc put) x e es n ∙ rec ∙ sym (lookup-other put x e es n)
       go (no n) rec = cons-same (suc put) put x e es es (same-test (e .place) put (λ k. n (h .0 .1 k))) rec
 
   -- ---- the directory of the record
 
+  -- a changed frame has no entry until it is put down
   pub dir-change : (put f n : ℕ) (es : List Note) → put ≤ n → Single es → dirOf area first put (noteChange (record { frame = f; place = n }) es) ≡ withoutFrame f (dirOf area first put es)
   unfolding dirOf
   dir-change put f n es h s = rising-ext _ _ (rising-byFrame _) (rising-remove f _ (rising-byFrame (downEntries area first put es))) (λ x. go x (ℕ-discrete x f))
@@ -117,6 +119,7 @@ module _ (area first : ℕ) where
       go x (yes e) = rw e (lookup-byFrame f _ ∙ change-hit put f n es h s ∙ sym (remove-hit f _))
       go x (no d) = lookup-byFrame x _ ∙ change-miss put x f n es d ∙ sym (remove-miss x f _ d ∙ lookup-byFrame x _)
 
+  -- then it has that of its place
   pub dir-out : (put f : ℕ) (es : List Note) → Holds f put es → (Unnoted f es → ⊥)
       → dirOf area first (suc put) es ≡ insertByFrame (record { frame = f; block = ringAt area first put }) (dirOf area first put es)
   unfolding dirOf

@@ -1,13 +1,13 @@
--- A generation's size.
+-- A sorted generation's places, count and size: with an entry and without, quiet, and over a page-out.
 -- Assumes nothing.
 use Prim.Native.Nat.{ℕ, zero, suc, _+_, _≤_, _<_}
 use lib.ListN.{length}
 use mathlib.Core.List.{List, [], _∷_, tail}
 use mathlib.Core.Path.{_≡_, refl, ap, _∙_}
 use native.Mathlib.Omega.{arith}
-use Rattle.card.proofs.RingLaws.{size-some}
+use Rattle.card.proofs.BytesLaws.{none-long}
+use Rattle.card.proofs.RingLaws.{size-some, size-none, size-above}
 use Rattle.card.specs.Ring.{ringAt, dirBlocks, generationSize}
-use Rattle.card.specs.declared.directory.Entry.{Entry}
 use Rattle.recovery.proofs.ContentsLaws.{length-insertByFrame-new}
 use Rattle.recovery.proofs.Sorted.{Absent, SortedGeneration, placesOf, countOf, sizeOf, sortedEmpty, oldest, pagedOut}
 use Rattle.recovery.specs.Contents.{FrameBytes}
@@ -30,16 +30,8 @@ pub pagedOut-size : (area : ℕ) (g : SortedGeneration) → 0 < length (g .waiti
 unfolding sizeOf
 pagedOut-size area g h new = cc (pagedOut-pages area g h, pagedOut-count area g h new)
 
--- of a generation with an entry
-some-size : (g : SortedGeneration) → 1 ≤ countOf g → sizeOf g ≡ placesOf g + dirBlocks (countOf g) + 1
-unfolding sizeOf
-some-size g h = size-some (placesOf g) (countOf g) h
-
-pub size-none : (g : SortedGeneration) → countOf g ≡ 0 → sizeOf g ≡ 0
-unfolding sizeOf generationSize
-size-none g h = rw h
-
 pub pages-below : (g : SortedGeneration) → (1 ≤ g .pagesDown → 1 ≤ countOf g) → placesOf g ≤ sizeOf g
+unfolding sizeOf
 pages-below g any = go (countOf g) refl
   where
     idle : countOf g ≡ 0 → placesOf g ≡ 0
@@ -49,9 +41,9 @@ pages-below g any = go (countOf g) refl
         go2 zero q = unfold placesOf countOf in (omega arith)
         go2 (suc u) q = absurd (omega (arith, any (omega arith)))
 
-    go : (n : ℕ) → countOf g ≡ n → placesOf g ≤ sizeOf g
+    go : (n : ℕ) → countOf g ≡ n → placesOf g ≤ generationSize (placesOf g) (countOf g)
     go zero e = omega (arith, idle e)
-    go (suc n) e = omega (arith, some-size g (omega arith))
+    go (suc n) e = omega (arith, size-above (placesOf g) (countOf g) (omega arith))
 
 -- of one of which no frame waits
 pub quiet-pages : (g : SortedGeneration) → g .waiting ≡ [] → placesOf g ≡ g .pagesDown
@@ -63,7 +55,8 @@ unfolding countOf
 quiet-count g h = omega (arith, ap length h)
 
 pub quiet-size : (g : SortedGeneration) → g .waiting ≡ [] → 1 ≤ length (g .dir) → sizeOf g ≡ g .pagesDown + dirBlocks (length (g .dir)) + 1
-quiet-size g h k = some-size g (omega (arith, quiet-count g h)) ∙ rw (quiet-pages g h, quiet-count g h)
+unfolding sizeOf
+quiet-size g h k = size-some (placesOf g) (countOf g) (omega (arith, quiet-count g h)) ∙ rw (quiet-pages g h, quiet-count g h)
 
 pub empty-size : (first : ℕ) → sizeOf (sortedEmpty first) ≡ 0
 unfolding sizeOf generationSize countOf
@@ -73,19 +66,15 @@ pub pagesDown-below : (g : SortedGeneration) → (1 ≤ g .pagesDown → 1 ≤ c
 unfolding placesOf
 pagesDown-below g any = omega (arith, pages-below g any)
 
--- one with no entry has none, and no frame waits
+-- one with no entry: nothing is named, no frame waits, and it has no size
 pub idle-dir : (g : SortedGeneration) → countOf g ≡ 0 → g .dir ≡ []
 unfolding countOf
-idle-dir g h = go (g .dir) refl
-  where
-    go : (es : List Entry) → g .dir ≡ es → g .dir ≡ []
-    go [] e = e
-    go (x ∷ es) e = absurd (omega (arith, ap length e))
+idle-dir g h = none-long (g .dir) (omega arith)
 
 pub idle-waiting : (g : SortedGeneration) → countOf g ≡ 0 → g .waiting ≡ []
 unfolding countOf
-idle-waiting g h = go (g .waiting) refl
-  where
-    go : (ws : List FrameBytes) → g .waiting ≡ ws → g .waiting ≡ []
-    go [] e = e
-    go (x ∷ ws) e = absurd (omega (arith, ap length e))
+idle-waiting g h = none-long (g .waiting) (omega arith)
+
+pub idle-size : (g : SortedGeneration) → countOf g ≡ 0 → sizeOf g ≡ 0
+unfolding sizeOf
+idle-size g h = size-none (placesOf g) (countOf g) h

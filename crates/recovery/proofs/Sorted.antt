@@ -38,6 +38,7 @@ queueChange w (x ∷ xs) = cond (eqb (w .frame) (x .frame)) (w ∷ xs) (x ∷ qu
 abbrev pub Without : ℕ → List FrameBytes → Type 0
 Without f ws = All (λ w. f ≢ w .frame) ws
 
+-- every frame is named once
 abbrev pub Once : List FrameBytes → Type 0
 Once [] = Unit {0}
 Once (w ∷ ws) = Without (w .frame) ws × Once ws
@@ -53,6 +54,7 @@ lookup f (e ∷ es) = cond (eqb f (e .frame)) (suc (e .block)) (lookup f es)
 
 -- ---- generations
 
+-- its directory by rising frame, and what waits, oldest first
 pub record SortedGeneration : Type 0 where
   pub first : ℕ
   pub pagesDown : ℕ

@@ -7,6 +7,7 @@ use mathlib.Core.List.{List, []}
 use mathlib.Core.Path.{_≡_, refl, sym, _∙_, subst}
 use native.Mathlib.Nat.{add-zero}
 use native.Mathlib.Omega.{arith}
+use Rattle.card.proofs.AllLaws.{all-map, all-both}
 use Rattle.card.proofs.BlockLaws.{put-length, put-same, put-other}
 use Rattle.card.proofs.DirectoryLaws.{FitsEntry, read-back}
 use Rattle.card.proofs.HeaderLaws.{header-length, HeaderBack, header-back}
@@ -19,7 +20,7 @@ use Rattle.card.specs.Header.{headerBlock, headerOn}
 use Rattle.card.specs.Ring.{ringAt, dirBlocks}
 use Rattle.card.specs.Trailer.{trailerBlock}
 use Rattle.card.specs.declared.directory.Entry.{Entry}
-use Rattle.recovery.proofs.ContentsLaws.{overlay-base, all-map, storedFrames-same, all-both}
+use Rattle.recovery.proofs.ContentsLaws.{overlay-base, storedFrames-same, overlay-without}
 use Rattle.recovery.proofs.GenerationLaws.{home-kept}
 use Rattle.recovery.proofs.Invariant.{Tail, Recoverable, Invariant}
 use Rattle.recovery.proofs.SizeLaws.{quiet-count, quiet-size, empty-size}
@@ -27,12 +28,8 @@ use Rattle.recovery.proofs.Sorted.{countOf, sizeOf, Sorted, sortedEmpty
 use Rattle.recovery.proofs.TailLaws.{tail-dir, tail-trailer}
 use Rattle.recovery.proofs.Writes.{pending-place}
 use Rattle.recovery.specs.Book.{FrameBook, markedOr, bookHeader}
-use Rattle.recovery.specs.Contents.{Contents, FrameBytes, overlay, storedFrames}
+use Rattle.recovery.specs.Contents.{overlay, storedFrames}
 use Rattle.recovery.specs.Sound.{Home, Between}
-
-pub overlay-none : (ws : List FrameBytes) (a : Contents) (f : ℕ) → ws ≡ [] → overlay ws a f ≡ a f
-unfolding overlay
-overlay-none ws a f e = rw e
 
 -- counted from a first block s places further on
 pub shift : (area first s lo hi lo′ hi′ : ℕ) → 1 ≤ first → first ≤ area → s + lo′ ≤ lo → hi ≤ s + hi′
@@ -128,7 +125,7 @@ module _ (blocks : ℕ) (s : Sorted) (c : List ℕ) (b : FrameBook) (i : Invaria
   new-view : (f : ℕ) → s .area < f → f < blocks → overlay (storedFrames d (s .pending .dir)) (blockAt d) f ≡ markedOr b f
   new-view f l k =
       rw (same-storedFrames _ _ (s .pending .dir) (i .pending-ok .inside))
-      (overlay-base (storedFrames c (s .pending .dir)) (blockAt d) (b .kept) f (home-is f l k) ∙ sym (overlay-none (s .pending .waiting) (overlay (storedFrames c (s .pending .dir)) (b .kept)) f still) ∙ i .mark f l k)
+      (overlay-base (storedFrames c (s .pending .dir)) (blockAt d) (b .kept) f (home-is f l k) ∙ sym (overlay-without (s .pending .waiting) (overlay (storedFrames c (s .pending .dir)) (b .kept)) f (rw still tt)) ∙ i .mark f l k)
 
   new-recoverable : Recoverable blocks (s .area) (s .ranges) (suc (s .commit)) (s .pending) d (markedOr b)
   unfolding h d

@@ -4,17 +4,18 @@ use Prim.Native.Nat.{ℕ, _+_, _*_, _≤_, _<_}
 use lib.ListN.{length, take}
 use mathlib.Core.List.{List}
 use mathlib.Core.Logic.{_≢_}
-use mathlib.Core.Path.{_≡_, sym, _∙_}
+use mathlib.Core.Path.{_≡_, refl, sym, _∙_}
 use native.Mathlib.Decide.{ℕ-discrete}
 use native.Mathlib.Omega.{arith}
+use Rattle.card.proofs.AllLaws.{all-next, all-at, all-map}
 use Rattle.card.proofs.BlockLaws.{put-same, put-other, block-length}
 use Rattle.card.proofs.RingLaws.{on-in}
 use Rattle.card.specs.Block.{blockAt, putBlock}
 use Rattle.card.specs.Bytes.{All}
 use Rattle.card.specs.Ring.{ringAt}
 use Rattle.card.specs.declared.directory.Entry.{Entry}
-use Rattle.recovery.proofs.ContentsLaws.{all-map, storedFrames-same}
-use Rattle.recovery.proofs.GenerationLaws.{overlay-at, named-at, all-at, all-next}
+use Rattle.recovery.proofs.ContentsLaws.{storedFrames-same}
+use Rattle.recovery.proofs.GenerationLaws.{overlay-at}
 use Rattle.recovery.proofs.Harmless.{Harmless, moving, harmless-write}
 use Rattle.recovery.proofs.Invariant.{Invariant}
 use Rattle.recovery.proofs.Sorted.{sizeOf, Sorted, copyHome, nextHome, sortedWrite, cardAfter, sortedAfter}
@@ -56,7 +57,9 @@ module _ (blocks : ℕ) (s : Sorted) (c : List ℕ) (b : FrameBook) (i : Invaria
 
   harmless : Harmless blocks (s .area) (s .committed) n
   unfolding n nextHome
-  harmless = moving (high .0) (high .1) (named-at (s .committed .dir) (s .migrated) _ more)
+  harmless = moving (high .0) (high .1) (λ none.
+      let other : n ≢ nextHome s .frame = all-at (λ e. n ≢ e .frame) (s .committed .dir) (s .migrated) _ none more in
+      other refl)
 
   pub harmless-M : Harmless blocks (s .area) (s .committed) (sortedWrite copyHome s c .block)
   unfolding sortedWrite n

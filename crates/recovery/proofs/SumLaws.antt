@@ -16,7 +16,7 @@ use Rattle.card.specs.Ring.{dirBlocks}
 use Rattle.recovery.specs.Contents.{FrameBytes}
 use Rattle.recovery.specs.Directory.{Note, noteChange, turnOf}
 use Rattle.recovery.specs.Questions.{newPlaces, roomAsks, snapshotAsks, pageOutAsks, given, advanceAsks}
-use Rattle.recovery.specs.State.{places, Generation, State, entryCount, size, committedSize}
+use Rattle.recovery.specs.State.{Generation, State, places, entryCount, size, committedSize}
 use Rattle.recovery.specs.Step.{queued, changeFrame, changeFrames, afterChange, Kind, page, directory, trailer, migration, header, migrationDue, advanceDue}
 use Rattle.recovery.specs.Sums.{isSome, waitsIn, notedIn, placesNeeded, entriesNeeded, remainingWrites, firstOf, roomSums, snapshotSums, pageOutSums, advanceSums}
 
@@ -60,6 +60,7 @@ turn-noted f put i (e ∷ es) = go (eqb f (e .frame)) (turn-noted f put i es)
 
 -- one frame
 module _ (w : FrameBytes) (g : Generation) where
+  -- a frame takes a place unless it waits, and an entry unless it has one
   pub one-place : places (changeFrame w g) ≡ places g + cond (waitsIn (w .frame) g) 0 1
   unfolding changeFrame waitsIn
   one-place = go (turnOf (w .frame) (g .pagesDown) (g .entries))
@@ -75,6 +76,15 @@ module _ (w : FrameBytes) (g : Generation) where
       go : (t : Option ℕ) → turnOf (w .frame) (g .pagesDown) (g .entries) ≡ t → entryCount (queued t w g) ≡ entryCount g + cond (notedIn (w .frame) (g .entries)) 0 1
       go none e = unfold queued in (noted-long (w .frame) (places g) (g .entries))
       go (some i) e = unfold queued in (rw (turn-noted (w .frame) (g .pagesDown) i (g .entries) e) (omega arith))
+
+  -- a change puts nothing down
+  pub one-down : changeFrame w g .pagesDown ≡ g .pagesDown
+  unfolding changeFrame
+  one-down = go (turnOf (w .frame) (g .pagesDown) (g .entries))
+    where
+      go : (t : Option ℕ) → queued t w g .pagesDown ≡ g .pagesDown
+      go none = unfold queued in refl
+      go (some i) = unfold queued in refl
 
   other-waits : (x : ℕ) → x ≢ w .frame → waitsIn x (changeFrame w g) ≡ waitsIn x g
   unfolding changeFrame waitsIn
@@ -92,6 +102,7 @@ module _ (w : FrameBytes) (g : Generation) where
       go none = unfold queued in (noted-other x (w .frame) (places g) (g .entries) d)
       go (some i) = unfold queued in refl
 
+  -- what other frames need is the same after it
   pub others-places : (ws : List FrameBytes) → All (λ x. x .frame ≢ w .frame) ws → placesNeeded ws (changeFrame w g) ≡ placesNeeded ws g
   unfolding placesNeeded
   others-places [] h = refl

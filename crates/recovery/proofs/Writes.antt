@@ -6,14 +6,14 @@ use mathlib.Core.List.{List, [], _∷_}
 use mathlib.Core.Logic.{_≢_}
 use mathlib.Core.Path.{_≡_, ap, sym, _∙_}
 use native.Mathlib.Omega.{arith}
+use Rattle.card.proofs.AllLaws.{all-take, all-map}
 use Rattle.card.proofs.BlockLaws.{put-same, put-other}
 use Rattle.card.proofs.RingLaws.{on-in, from-on, on-on}
 use Rattle.card.specs.Block.{blockAt, putBlock}
 use Rattle.card.specs.Bytes.{All}
 use Rattle.card.specs.Ring.{ringAt, ringOffset}
 use Rattle.card.specs.declared.directory.Entry.{Entry}
-use Rattle.recovery.proofs.ContentsLaws.{all-map, storedFrames-same}
-use Rattle.recovery.proofs.GenerationLaws.{all-first}
+use Rattle.recovery.proofs.ContentsLaws.{storedFrames-same}
 use Rattle.recovery.proofs.Harmless.{Harmless, free, harmless-write}
 use Rattle.recovery.proofs.Invariant.{Recoverable, Invariant}
 use Rattle.recovery.proofs.Sorted.{sizeOf, Sorted, tailBlock}
@@ -63,7 +63,7 @@ module _ (blocks : ℕ) (s : Sorted) (c : List ℕ) (b : FrameBook) (i : Invaria
         (λ k. d (sym (from-on (s .area) (s .committed .first) (i .recoverable .low) (i .recoverable .high) r h) ∙ ap (ringOffset (s .area) (s .committed .first)) k ∙ spot-at))
 
     pub spot-migrated : All (λ e. blockAt (putBlock c n x) (e .frame) ≡ b .kept (e .frame)) (take (s .migrated) (s .committed .dir))
-    spot-migrated = joined (take (s .migrated) (s .committed .dir)) (all-first (Home (s .area) blocks) (s .migrated) (s .committed .dir) (i .recoverable .named)) (i .migrated-ok)
+    spot-migrated = joined (take (s .migrated) (s .committed .dir)) (all-take (Home (s .area) blocks) (s .migrated) (s .committed .dir) (i .recoverable .named)) (i .migrated-ok)
       where
         joined : (es : List Entry) → All (Home (s .area) blocks) es → All (λ e. blockAt c (e .frame) ≡ b .kept (e .frame)) es
             → All (λ e. blockAt (putBlock c n x) (e .frame) ≡ b .kept (e .frame)) es

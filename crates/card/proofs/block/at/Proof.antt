@@ -1,7 +1,6 @@
 -- `card::block::at` meets its contract.
 -- Assumes nothing.
 use borrow.Author.Needs.{needs}
-use denote.Ref.{now}
 use Rattle.card.proofs.BlockLaws.{lent-block}
 use Rattle.card.proofs.block.at.Statement.{statement}
 use Rattle.card.proofs.block.at.Tie as tie

@@ -1,7 +1,6 @@
 -- `card::block::put` meets its contract.
 -- Assumes nothing.
 use borrow.Author.Needs.{needs}
-use denote.Ref.{now}
 use Rattle.card.proofs.BlockLaws.{lent-put}
 use Rattle.card.proofs.block.put.Statement.{statement}
 use Rattle.card.proofs.block.put.Tie as tie

@@ -1,7 +1,6 @@
 -- `card::checkpoint::read` meets its contract.
 -- Assumes nothing.
 use borrow.Author.Needs.{needs}
-use denote.Ref.{now}
 use mathlib.Core.Path.{ap, sym, _∙_}
 use native.Mathlib.Omega.{arith}
 use Rattle.card.proofs.CheckpointLaws.{whole-tells, refusal-is, refuse-3, refuse-header, uncommitted-asked, uncommitted-is, uncommitted-entries}

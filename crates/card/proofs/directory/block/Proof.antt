@@ -1,7 +1,6 @@
 -- `card::directory::block` meets its contract. The loop has put the first k entries of the block.
 -- Assumes nothing.
 use Prim.Native.Nat.{ℕ, _+_, _-_, _*_, _≤_, min}
-use denote.Ref.{now}
 use lib.ListN.{length, getD}
 use mathlib.Core.List.{List, [], _∷_}
 use mathlib.Core.Path.{_≡_, refl, ap, sym, _∙_}

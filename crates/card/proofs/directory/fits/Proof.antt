@@ -1,7 +1,6 @@
 -- `card::directory::fits` meets its contract. The loop leaves the entries from the i-th on to be asked about.
 -- Assumes nothing.
 use Prim.Native.Nat.{_-_, _≤_}
-use denote.Ref.{now}
 use mathlib.Core.Path.{_≡_, ap, sym, _∙_}
 use native.Mathlib.Omega.{arith}
 use Rattle.card.proofs.BytesLaws.{tab-start, tab-end}

@@ -1,7 +1,6 @@
 -- `card::directory::read` meets its contract. The loop has read the first i entries.
 -- Assumes nothing.
 use Prim.Native.Nat.{ℕ, _-_, _≤_}
-use denote.Ref.{now}
 use lib.ListN.{length, length-set}
 use mathlib.Core.Path.{_≡_, refl, ap}
 use native.Mathlib.Omega.{arith}

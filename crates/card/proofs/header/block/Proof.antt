@@ -1,7 +1,6 @@
 -- `card::header::block` meets its contract.
 -- Assumes nothing.
 use borrow.Author.Needs.{needs}
-use denote.Ref.{now}
 use mathlib.Core.Path.{_∙_}
 use native.Mathlib.Omega.{arith}
 use Rattle.card.proofs.HeaderLaws.{header-put}

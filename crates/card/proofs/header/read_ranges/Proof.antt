@@ -1,7 +1,6 @@
 -- `card::header::read_ranges` meets its contract. The loop has read the first k numbers.
 -- Assumes nothing.
 use Prim.Native.Nat.{_+_, _-_, _*_, _≤_}
-use denote.Ref.{now}
 use lib.ListN.{length, length-set}
 use mathlib.Core.Path.{_≡_, refl}
 use native.Mathlib.Omega.{arith}

@@ -1,7 +1,6 @@
 -- `card::number::put_words` meets its contract. The loop has put the first k numbers.
 -- Assumes nothing.
 use Prim.Native.Nat.{ℕ, _+_, _-_, _*_, _≤_}
-use denote.Ref.{now}
 use lib.ListN.{length, take, getD}
 use mathlib.Core.List.{List}
 use mathlib.Core.Path.{_≡_, ap, sym, _∙_}

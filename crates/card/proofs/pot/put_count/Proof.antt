@@ -2,7 +2,6 @@
 -- Assumes nothing.
 use Prim.Native.Nat.{ℕ}
 use borrow.Author.Needs.{needs}
-use denote.Ref.{now}
 use mathlib.Core.Path.{ap, _∙_}
 use Rattle.card.specs.Bytes.{putU32}
 use Rattle.card.specs.Pot.{putCount}

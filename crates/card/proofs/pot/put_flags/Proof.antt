@@ -2,7 +2,6 @@
 -- Assumes nothing.
 use Prim.Native.Nat.{_+_}
 use borrow.Author.Needs.{needs}
-use denote.Ref.{now}
 use native.Mathlib.Omega.{arith}
 use Rattle.card.proofs.BytesLaws.{store1}
 use Rattle.card.specs.Pot.{entryAt, putFlags}

@@ -4,7 +4,7 @@ use borrow.Author.Needs.{needs}
 use mathlib.Core.Path.{ap, sym, _∙_}
 use native.Mathlib.Nat.{zero-add}
 use native.Mathlib.Omega.{arith}
-use Rattle.frames.proofs.LoadLaws.{queued, pending-placed, under, index-in, ring-in, put-down, turn-in}
+use Rattle.frames.proofs.LoadLaws.{at-turn, pending-placed, under, index-in, ring-in, at-place, turn-in}
 use Rattle.frames.specs.Step.{committedBytes}
 use Rattle.record.specs.Meaning.{seatAt}
 use Rattle.frames.proofs.load.in_pending.Statement.{statement}
@@ -36,7 +36,7 @@ returns-2 c =
     let at-find = c .before .before .before .before .before .before .before .before .find in
     let at-if1 = c .before .before .before .before .before .before .before .if1 in
     let placed = pending-placed (at-start .args .s) (at-start .pre .0) in
-    put-down placed (at-find .ensures) (at-if1 .left) (c .before .before .before .before .at .ensures .0) _ (c .before .pending-first .ensures) (λ card memory f. committedBytes (at-start .args .s) f card memory) _ (c .before .before .if2 .taken) (c .at2 .ensures)
+    at-place placed (at-find .ensures) (at-if1 .left) (c .before .before .before .before .at .ensures .0) _ (c .before .pending-first .ensures) (λ card memory f. committedBytes (at-start .args .s) f card memory) _ (c .before .before .if2 .taken) (c .at2 .ensures)
 
 seat-requires : tie.Need-seat-requires
 seat-requires c κs =
@@ -52,7 +52,7 @@ returns-3 c =
     let at-find = c .before .before .before .before .before .before .before .before .find in
     let at-if1 = c .before .before .before .before .before .before .before .if1 in
     let placed = pending-placed (at-start .args .s) (at-start .pre .0) in
-    queued placed (at-find .ensures) (at-if1 .left) (c .before .before .before .before .at .ensures .0) (λ card memory f. committedBytes (at-start .args .s) f card memory) _ (c .before .before .if2 .left) ((c .seat .ensures) ∙ ap (seatAt (at-start .args .s .frames) (at-start .args .s .head)) (sym (zero-add _)))
+    at-turn placed (at-find .ensures) (at-if1 .left) (c .before .before .before .before .at .ensures .0) (λ card memory f. committedBytes (at-start .args .s) f card memory) _ (c .before .before .if2 .left) ((c .seat .ensures) ∙ ap (seatAt (at-start .args .s .frames) (at-start .args .s .head)) (sym (zero-add _)))
 
 pub in-pending-spec : {M : Type 1} → statement M
 in-pending-spec =

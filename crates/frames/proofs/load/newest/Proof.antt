@@ -2,7 +2,7 @@
 -- Assumes nothing.
 use borrow.Author.Needs.{needs}
 use native.Mathlib.Omega.{arith}
-use Rattle.frames.proofs.LoadLaws.{queued, current-placed, under, index-in, ring-in, put-down, turn-in}
+use Rattle.frames.proofs.LoadLaws.{at-turn, current-placed, under, index-in, ring-in, at-place, turn-in}
 use Rattle.frames.specs.Step.{pendingBytes}
 use Rattle.record.proofs.Held.{held}
 use Rattle.recovery.specs.State.{readFrame}
@@ -37,7 +37,7 @@ returns-2 c =
     let at-find = c .before .before .before .before .before .before .before .before .find in
     let at-if1 = c .before .before .before .before .before .before .before .if1 in
     let placed = current-placed (at-start .args .s) (at-start .pre .0) in
-    put-down placed (at-find .ensures) (at-if1 .left) (c .before .before .before .before .at .ensures .0) _ (c .before .current-first .ensures) (λ card memory f. pendingBytes (at-start .args .s) f card memory) _ (c .before .before .if2 .taken) (c .at2 .ensures)
+    at-place placed (at-find .ensures) (at-if1 .left) (c .before .before .before .before .at .ensures .0) _ (c .before .current-first .ensures) (λ card memory f. pendingBytes (at-start .args .s) f card memory) _ (c .before .before .if2 .taken) (c .at2 .ensures)
 
 sub-ahead : tie.Need-sub-ahead
 sub-ahead c =
@@ -67,7 +67,7 @@ returns-3 c =
     let at-find = c .before .before .before .before .before .before .before .before .before .find in
     let at-if1 = c .before .before .before .before .before .before .before .before .if1 in
     let placed = current-placed (at-start .args .s) (at-start .pre .0) in
-    queued placed (at-find .ensures) (at-if1 .left) (c .before .before .before .before .before .at .ensures .0) (λ card memory f. pendingBytes (at-start .args .s) f card memory) _ (c .before .before .before .if2 .left) (c .seat .ensures)
+    at-turn placed (at-find .ensures) (at-if1 .left) (c .before .before .before .before .before .at .ensures .0) (λ card memory f. pendingBytes (at-start .args .s) f card memory) _ (c .before .before .before .if2 .left) (c .seat .ensures)
 
 pub newest-spec : {M : Type 1} → statement M
 newest-spec =

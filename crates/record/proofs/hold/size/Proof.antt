@@ -3,8 +3,7 @@
 use borrow.Author.Needs.{needs}
 use mathlib.Core.Path.{sym}
 use native.Mathlib.Omega.{arith}
-use Rattle.card.proofs.RingLaws.{size-some}
-use Rattle.record.proofs.HoldTests.{size-none}
+use Rattle.card.proofs.RingLaws.{size-some, size-none}
 use Rattle.record.proofs.hold.size.Statement.{statement}
 use Rattle.record.proofs.hold.size.Tie as tie
 

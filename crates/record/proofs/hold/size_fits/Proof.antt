@@ -4,9 +4,8 @@ use borrow.Author.Needs.{needs}
 use borrow.Author.Tests.{le-leb, lt-leb}
 use mathlib.Core.Path.{sym}
 use native.Mathlib.Omega.{arith}
-use Rattle.card.proofs.RingLaws.{size-some}
+use Rattle.card.proofs.RingLaws.{size-some, size-none}
 use Rattle.card.specs.Ring.{generationSize}
-use Rattle.record.proofs.HoldTests.{size-none}
 use Rattle.record.proofs.hold.size_fits.Statement.{statement}
 use Rattle.record.proofs.hold.size_fits.Tie as tie
 

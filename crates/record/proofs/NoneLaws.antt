@@ -1,0 +1,38 @@
+-- A generation without a change: what it means, and that it holds together.
+-- Assumes nothing.
+use Prim.Native.Nat.{ℕ}
+use mathlib.Core.List.{List, []}
+use mathlib.Core.Path.{_≡_}
+use native.Mathlib.Omega.{arith}
+use Rattle.card.proofs.BytesLaws.{tab-none}
+use Rattle.card.proofs.RingLaws.{size-none}
+use Rattle.card.specs.Bytes.{tabulate}
+use Rattle.record.proofs.Held.{Listed}
+use Rattle.record.specs.Meaning.{sizeOf, waits, notesOf, generationOf, NoChange}
+use Rattle.record.specs.declared.store.Changes.{Changes}
+use Rattle.recovery.specs.State.{empty}
+
+module _ (g : Changes) (none : NoChange g) where
+  pub none-waits : waits g ≡ 0
+  none-waits = omega (arith, none .taken)
+
+  pub none-means : (first i : ℕ) (at : ℕ → List ℕ) → generationOf first (tabulate at i (waits g)) g ≡ empty first
+  unfolding empty
+  none-means first i at = λ k. record { first = first; pagesDown = none .down k; entries = entries k; waiting = waiting k }
+    where
+      entries : notesOf g ≡ []
+      entries = rw (none .count) (tab-none _ 0)
+
+      waiting : tabulate at i (waits g) ≡ []
+      waiting = rw none-waits (tab-none _ i)
+
+  pub none-size : sizeOf g ≡ 0
+  none-size = size-none (g .taken) (g .count) (none .count)
+
+  pub none-listed : (area blocks : ℕ) → Listed area blocks g
+  none-listed area blocks = record {
+    home = λ i l. absurd (omega (arith, none .count));
+    single = λ i j l k. absurd (omega (arith, none .count));
+    taken = λ i l. absurd (omega (arith, none .count));
+    stands = λ k l h. absurd (omega (arith, none .taken));
+  }

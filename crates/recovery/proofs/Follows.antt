@@ -1,0 +1,130 @@
+-- A card of which no record is held, and a state with its card: what they show of the book of frames.
+-- Assumes nothing.
+use Prim.Native.Nat.{ℕ, _+_, _*_, _≤_, _<_}
+use borrow.Author.Tests.{ltb-true, ltb-false, eqb-true, eqb-false}
+use lib.Dec.{ltb, eqb}
+use lib.ListN.{length}
+use mathlib.Core.List.{List, []}
+use mathlib.Core.Option.{Option, none, some}
+use mathlib.Core.Path.{_≡_, refl, sym, _∙_}
+use native.Mathlib.Nat.{add-zero}
+use native.Mathlib.Omega.{arith}
+use Rattle.card.proofs.BytesLaws.{none-long}
+use Rattle.card.proofs.Test.{byTest}
+use Rattle.card.specs.Range.{Range}
+use Rattle.card.specs.Ring.{dirBlocks}
+use Rattle.recovery.proofs.Invariant.{Recoverable, Invariant}
+use Rattle.recovery.proofs.OrderedLaws.{long-waiting, same-count, same-size}
+use Rattle.recovery.proofs.RoomLaws.{Room}
+use Rattle.recovery.proofs.SizeLaws.{quiet-count, quiet-size}
+use Rattle.recovery.proofs.Sorted.{SortedGeneration, placesOf, countOf, sizeOf, sortedEmpty, sortedCommitted, sortedGeneration, sorted}
+use Rattle.recovery.specs.Book.{FrameBook}
+use Rattle.recovery.specs.Contents.{Contents}
+use Rattle.recovery.specs.Directory.{byFrame, downEntries, dirOf, waitingFrom}
+use Rattle.recovery.specs.Sound.{Ordered}
+use Rattle.recovery.specs.State.{Committed, State, places, entryCount, size, committedSize, directoryOf, waitingFrames, empty}
+use Rattle.recovery.specs.Step.{Kind, page, directory, trailer, migration, header, migrationDue, advanceDue}
+
+-- a card of which no record is held: a start on it shows kept
+abbrev pub Stored : ℕ → ℕ → List Range → List ℕ → Contents → Type 0
+Stored blocks area ranges c kept = (commit : ℕ) × (g : SortedGeneration) × Recoverable blocks area ranges commit g c kept
+
+-- a state whose card and itself show what the book has
+pub record Follows (blocks area : ℕ) (ranges : List Range) (s : State) (c : List ℕ) (b : FrameBook) : Type 0 where
+  pub blocks-is : s .blocks ≡ blocks
+  pub area-is : s .area ≡ area
+  pub ranges-is : s .ranges ≡ ranges
+  pub invariant : Invariant blocks (sorted s) c b
+  pub pending-ordered : Ordered (s .pending)
+  pub current-ordered : Ordered (s .current)
+  pub migrated-within : s .migrated ≤ length (s .committed .entries)
+
+-- what a card shows that has the state's geometry
+pub stored-by : {blocks area : ℕ} {ranges : List Range} {s : State} {c : List ℕ} {b : FrameBook} → Follows blocks area ranges s c b → {commit : ℕ} {g : SortedGeneration} {c′ : List ℕ} {kept : Contents}
+    → Recoverable blocks (s .area) (s .ranges) commit g c′ kept → Stored blocks area ranges c′ kept
+stored-by f {commit} {g} r = (commit, g, rw (f .area-is, f .ranges-is) at r)
+
+module _ (blocks area : ℕ) (ranges : List Range) (s : State) (c : List ℕ) (b : FrameBook) (f : Follows blocks area ranges s c b) where
+  -- its card alone shows what is kept
+  pub follows-stored : Stored blocks area ranges c (b .kept)
+  follows-stored = stored-by f (f .invariant .recoverable)
+
+  pub follows-card : (length c ≡ 512 * blocks) × (11 ≤ blocks) × (blocks ≤ 65536)
+  follows-card = (f .invariant .recoverable .whole, f .invariant .recoverable .many, f .invariant .recoverable .small)
+
+-- ---- empty and committed generations, sorted
+
+pub empty-ordered : (first : ℕ) → Ordered (empty first)
+unfolding empty places
+empty-ordered first = record { single = tt; taken = tt; waits = λ k l m. absurd (omega arith) }
+
+pub sorted-empty : (area first : ℕ) → sortedGeneration area (empty first) ≡ sortedEmpty first
+unfolding empty directoryOf waitingFrames dirOf downEntries byFrame waitingFrom
+sorted-empty area first = refl
+
+-- the committed one has the size of its sorted form
+pub same-committed : (g : Committed) → committedSize g ≡ sizeOf (sortedCommitted g)
+unfolding committedSize sizeOf placesOf countOf
+same-committed g = rw (add-zero (g .places), add-zero (length (g .entries)))
+
+-- ---- what the tests that choose a write tell
+
+-- of the state in which a write of this kind is due
+abbrev pub Facts : State → Kind → Type 0
+Facts s page = 0 < length (s .pending .waiting)
+Facts s directory = (0 < entryCount (s .pending)) × (length (s .pending .waiting) ≡ 0) × (s .tailDown ≤ dirBlocks (entryCount (s .pending)))
+Facts s trailer = (0 < entryCount (s .pending)) × (length (s .pending .waiting) ≡ 0) × (s .tailDown ≤ dirBlocks (entryCount (s .pending)))
+Facts s migration = s .migrated < length (s .committed .entries)
+Facts s header = (0 < entryCount (s .pending)) × (length (s .pending .waiting) ≡ 0) × (dirBlocks (entryCount (s .pending)) < s .tailDown) × (length (s .committed .entries) ≤ s .migrated)
+
+-- and where none may be
+abbrev pub FactsOf : State → Option Kind → Type 0
+FactsOf s none = Unit {0}
+FactsOf s (some k) = Facts s k
+
+-- they hold of the write that is due
+pub due-facts : (s : State) → FactsOf s (advanceDue s)
+unfolding advanceDue migrationDue
+due-facts s =
+    byTest (FactsOf s) (eqb (entryCount (s .pending)) 0)
+    (λ e. byTest (FactsOf s) (ltb (s .migrated) (length (s .committed .entries))) (λ m. ltb-true _ _ m) (λ m. tt))
+    (λ e. let any : 0 < entryCount (s .pending) = omega (arith, eqb-false (entryCount (s .pending)) 0 e) in
+    byTest (FactsOf s) (ltb 0 (length (s .pending .waiting))) (λ p. ltb-true _ _ p)
+    (λ p. let still : length (s .pending .waiting) ≡ 0 = omega (arith, ltb-false 0 (length (s .pending .waiting)) p) in
+    byTest (FactsOf s) (ltb (s .tailDown) (dirBlocks (entryCount (s .pending))))
+    (λ q. (any, still, omega (arith, ltb-true (s .tailDown) (dirBlocks (entryCount (s .pending))) q)))
+    (λ q. byTest (FactsOf s) (eqb (s .tailDown) (dirBlocks (entryCount (s .pending))))
+    (λ r. (any, still, omega (arith, eqb-true (s .tailDown) (dirBlocks (entryCount (s .pending))) r)))
+    (λ r. byTest (FactsOf s) (ltb (s .migrated) (length (s .committed .entries))) (λ m. ltb-true _ _ m)
+    (λ m. (any, still, omega (arith, eqb-false (s .tailDown) (dirBlocks (entryCount (s .pending))) r, ltb-false (s .tailDown) (dirBlocks (entryCount (s .pending))) q), ltb-false _ _ m))))))
+
+-- ---- sizes and counts of a state that follows
+
+module _ {blocks area : ℕ} {ranges : List Range} {s : State} {c : List ℕ} {b : FrameBook} (f : Follows blocks area ranges s c b) where
+  pub size-pending : size (s .pending) ≡ sizeOf (sortedGeneration (s .area) (s .pending))
+  size-pending = same-size (s .area) (s .pending) (f .pending-ordered)
+
+  pub size-current : size (s .current) ≡ sizeOf (sortedGeneration (s .area) (s .current))
+  size-current = same-size (s .area) (s .current) (f .current-ordered)
+
+  pub count-pending : entryCount (s .pending) ≡ countOf (sortedGeneration (s .area) (s .pending))
+  count-pending = same-count (s .area) (s .pending) (f .pending-ordered)
+
+  -- there is room for what has changed
+  pub has-room : Room (s .current) s
+  has-room = (
+    rw size-current (f .invariant .half-current),
+    rw (size-current, size-pending, same-committed (s .committed)) (f .invariant .room),
+    omega (arith, f .invariant .seated, long-waiting (s .pending), long-waiting (s .current)),
+  )
+
+  -- where none of the pending ones waits, they are all named in the directory
+  module _ (still : length (s .pending .waiting) ≡ 0) where
+    pub no-waiting : waitingFrames (s .pending) ≡ []
+    no-waiting = none-long (waitingFrames (s .pending)) (omega (arith, long-waiting (s .pending)))
+
+    pub all-named : length (directoryOf (s .area) (s .pending)) ≡ entryCount (s .pending)
+    all-named = sym (count-pending ∙ quiet-count (sortedGeneration (s .area) (s .pending)) no-waiting)
+
+    pub tail-below : 0 < entryCount (s .pending) → s .tailDown ≤ dirBlocks (entryCount (s .pending)) → s .pending .pagesDown + s .tailDown < sizeOf (sortedGeneration (s .area) (s .pending))
+    tail-below any h = omega (arith, quiet-size (sortedGeneration (s .area) (s .pending)) no-waiting (omega (arith, all-named)), all-named)

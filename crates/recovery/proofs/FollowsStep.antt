@@ -1,0 +1,240 @@
+-- Every step keeps `Follows`: a change, a snapshot, a write of advance, a page-out.
+-- Assumes nothing.
+use Prim.Native.Nat.{ℕ, suc, _+_, _≤_, _<_}
+use borrow.Author.Tests.{ltb-true, ltb-false, eqb-true}
+use lib.Dec.{ltb, eqb}
+use lib.ListN.{length}
+use mathlib.Core.Bool.{Bool, true, false, cond}
+use mathlib.Core.List.{List, []}
+use mathlib.Core.Option.{some}
+use mathlib.Core.Path.{_≡_, refl, ap, sym, _∙_, subst}
+use native.Mathlib.Omega.{arith}
+use Rattle.card.proofs.QuestionLaws.{passed-both}
+use Rattle.card.specs.Block.{putBlock}
+use Rattle.card.specs.Bytes.{All}
+use Rattle.card.specs.Question.{firstNo}
+use Rattle.card.specs.Range.{Range}
+use Rattle.card.specs.Ring.{ringAt}
+use Rattle.recovery.proofs.Calls.{call-change, call-mark}
+use Rattle.recovery.proofs.Follows.{Follows, empty-ordered, sorted-empty, same-committed, Facts, FactsOf, due-facts, size-pending, size-current, count-pending, has-room, no-waiting, all-named, tail-below}
+use Rattle.recovery.proofs.Invariant.{Invariant}
+use Rattle.recovery.proofs.OrderedLaws.{sorted-out, oldest-is, out-ordered, long-waiting, same-size, change-many, some-waiting}
+use Rattle.recovery.proofs.RoomLaws.{Room, room-told}
+use Rattle.recovery.proofs.Sorted.{SortedGeneration, countOf, sizeOf, sortedEmpty, sortedCommitted, sortedGeneration, sorted, tailBlock, trailerAt, SortedWrite, pendingOut, directoryDown, trailerDown, copyHome, headerDown, currentOut, nextHome, sortedWrite, cardAfter, sortedAfter, sortedChange, sortedSnapshot}
+use Rattle.recovery.proofs.StepHead.{step-H}
+use Rattle.recovery.proofs.StepMove.{step-M}
+use Rattle.recovery.proofs.StepOut.{step-P, step-C}
+use Rattle.recovery.proofs.StepTail.{step-D, step-T}
+use Rattle.recovery.specs.Book.{FrameBook, bookChange, bookSnapshot, bookWrote, WholeFrame}
+use Rattle.recovery.specs.Contents.{FrameBytes}
+use Rattle.recovery.specs.Questions.{roomAsks, snapshotAsks, pageOutAsks}
+use Rattle.recovery.specs.Sound.{Ordered}
+use Rattle.recovery.specs.State.{State, entryCount, size, directoryOf}
+use Rattle.recovery.specs.Step.{pendingTo, currentTo, changeFrames, afterChange, afterSnapshot, Kind, page, directory, trailer, migration, header, outWrite, outOf, tailBytes, trailerBlockNo, nextMigration, kindWrite, afterKind, advanceDue, pageOutWrite, afterPageOut}
+use Rattle.recovery.specs.Write.{BlockWrite, putDown}
+
+-- the sorted form of a write
+abbrev pub formOf : Kind → SortedWrite
+formOf page = pendingOut
+formOf directory = directoryDown
+formOf trailer = trailerDown
+formOf migration = copyHome
+formOf header = headerDown
+
+-- it writes the same bytes to the same block
+pub same-write : (s : State) (c : List ℕ) (k : Kind) → kindWrite k s c ≡ sortedWrite (formOf k) (sorted s) c
+unfolding kindWrite sortedWrite tailBytes tailBlock nextMigration nextHome trailerBlockNo trailerAt
+same-write s c page = λ i. record { block = ringAt (s .area) (s .pending .first) (s .pending .pagesDown); bytes = oldest-is (s .area) (s .pending) i }
+same-write s c directory = refl
+same-write s c trailer = refl
+same-write s c migration = refl
+same-write s c header = refl
+
+module _ (blocks area : ℕ) (ranges : List Range) (s : State) (c : List ℕ) (b : FrameBook) (f : Follows blocks area ranges s c b) where
+  -- ---- a change
+
+  module _ (ws : List FrameBytes) (frames : All (WholeFrame area blocks) ws) (ok : firstNo (roomAsks ws s) ≡ 0) where
+    o : Ordered (changeFrames ws (s .current))
+    o = change-many (s .area) ws (s .current) (f .current-ordered) .0
+
+    current-is : sortedGeneration (s .area) (changeFrames ws (s .current)) ≡ sortedChange ws (sorted s) .current
+    unfolding sortedChange
+    current-is = change-many (s .area) ws (s .current) (f .current-ordered) .1
+
+    sorted-change : sortedChange ws (sorted s) ≡ sorted (afterChange ws s)
+    unfolding sortedChange afterChange
+    sorted-change = λ i. record {
+      area = s .area;
+      ranges = s .ranges;
+      memoryFrames = s .memoryFrames;
+      commit = s .commit;
+      committed = sortedCommitted (s .committed);
+      migrated = s .migrated;
+      pending = sortedGeneration (s .area) (s .pending);
+      tailDown = s .tailDown;
+      current = sym current-is i;
+    }
+
+    sums : Room (changeFrames ws (s .current)) s
+    sums = room-told ws s ok (has-room f)
+
+    new-size : size (changeFrames ws (s .current)) ≡ sizeOf (sortedChange ws (sorted s) .current)
+    new-size = same-size (s .area) (changeFrames ws (s .current)) o ∙ ap sizeOf current-is
+
+    new-waiting : length (changeFrames ws (s .current) .waiting) ≡ length (sortedChange ws (sorted s) .current .waiting)
+    new-waiting = sym (long-waiting (changeFrames ws (s .current))) ∙ ap (λ (g : SortedGeneration). length (g .waiting)) current-is
+
+    pub follows-change : Follows blocks area ranges (afterChange ws s) c (bookChange ws b)
+    unfolding afterChange
+    follows-change = record {
+      blocks-is = f .blocks-is;
+      area-is = f .area-is;
+      ranges-is = f .ranges-is;
+      invariant = rw (← sorted-change) (call-change blocks (sorted s) c b ws (f .invariant) (subst (λ (a : ℕ). All (WholeFrame a blocks) ws) (sym (f .area-is)) frames)
+          (rw (← new-size) (sums .0)) (rw (← new-size, ← size-pending f, ← (same-committed (s .committed))) (sums .1)) (omega (arith, new-waiting, long-waiting (s .pending), sums .2)));
+      pending-ordered = f .pending-ordered;
+      current-ordered = o;
+      migrated-within = f .migrated-within;
+    }
+
+  -- ---- a snapshot
+
+  sorted-snapshot : sortedSnapshot (sorted s) ≡ sorted (afterSnapshot s)
+  unfolding sortedSnapshot afterSnapshot
+  sorted-snapshot = rw (sorted-empty (s .area) (ringAt (s .area) (s .current .first) (size (s .current))), size-current f)
+
+  pub follows-snapshot : firstNo (snapshotAsks s) ≡ 0 → Follows blocks area ranges (afterSnapshot s) c (bookSnapshot b)
+  unfolding snapshotAsks
+  follows-snapshot ok =
+      let q = passed-both 15 (eqb (entryCount (s .pending)) 0) _ ok in
+      let r = passed-both 16 (ltb 0 (entryCount (s .current))) _ (q .1) in
+      let t = passed-both 17 (ltb (s .commit) 4294967295) [] (r .1) in
+      let idle : countOf (sortedGeneration (s .area) (s .pending)) ≡ 0 = omega (arith, count-pending f, eqb-true (entryCount (s .pending)) 0 (q .0)) in
+      record {
+        blocks-is = unfold afterSnapshot in (f .blocks-is);
+        area-is = unfold afterSnapshot in (f .area-is);
+        ranges-is = unfold afterSnapshot in (f .ranges-is);
+        invariant = rw (← sorted-snapshot) (call-mark blocks (sorted s) c b (f .invariant) idle (ltb-true _ _ (t .0)));
+        pending-ordered = unfold afterSnapshot in (f .current-ordered);
+        current-ordered = unfold afterSnapshot in (empty-ordered _);
+        migrated-within = unfold afterSnapshot in (f .migrated-within);
+      }
+
+  -- ---- advance
+
+  same-after : (k : Kind) → Facts s k → sortedAfter (formOf k) (sorted s) ≡ sorted (afterKind k s)
+  unfolding sortedAfter afterKind
+  same-after page h = λ i. record {
+    area = s .area;
+    ranges = s .ranges;
+    memoryFrames = s .memoryFrames;
+    commit = s .commit;
+    committed = sortedCommitted (s .committed);
+    migrated = s .migrated;
+    pending = sym (sorted-out (s .area) (s .pending) (f .pending-ordered) h) i;
+    tailDown = s .tailDown;
+    current = sortedGeneration (s .area) (s .current);
+  }
+  same-after directory h = refl
+  same-after trailer h = refl
+  same-after migration h = refl
+  same-after header h = rw (sorted-empty (s .area) (s .current .first)) (λ i. record {
+    area = s .area;
+    ranges = s .ranges;
+    memoryFrames = s .memoryFrames;
+    commit = suc (s .commit);
+    committed = record { first = s .pending .first; pagesDown = s .pending .pagesDown; dir = directoryOf (s .area) (s .pending); waiting = no-waiting f (h .1) i };
+    migrated = 0;
+    pending = sortedEmpty (s .current .first);
+    tailDown = 0;
+    current = sortedGeneration (s .area) (s .current);
+  })
+
+  after-invariant : (k : Kind) → Facts s k → Invariant blocks (sortedAfter (formOf k) (sorted s)) (cardAfter (formOf k) (sorted s) c) (bookWrote k b)
+  after-invariant page h = step-P blocks (sorted s) c b (f .invariant) (some-waiting (s .pending) h)
+  after-invariant directory h = step-D blocks (sorted s) c b (f .invariant) (no-waiting f (h .1)) (tail-below f (h .1) (h .0) (h .2))
+  after-invariant trailer h = step-T blocks (sorted s) c b (f .invariant) (no-waiting f (h .1)) (tail-below f (h .1) (h .0) (h .2))
+  after-invariant migration h = step-M blocks (sorted s) c b (f .invariant) h
+  after-invariant header h = step-H blocks (sorted s) c b (f .invariant) (omega (arith, count-pending f, h .0)) (no-waiting f (h .1)) (omega (arith, all-named f (h .1), h .2)) (h .3)
+
+  after-places : (k : Kind) → Facts s k → (afterKind k s .blocks ≡ blocks) × (afterKind k s .area ≡ area) × (afterKind k s .ranges ≡ ranges) × Ordered (afterKind k s .pending) × Ordered (afterKind k s .current) × (afterKind k s .migrated ≤ length (afterKind k s .committed .entries))
+  unfolding afterKind
+  after-places page h = (f .blocks-is, f .area-is, f .ranges-is, out-ordered (s .pending) (f .pending-ordered) h, f .current-ordered, f .migrated-within)
+  after-places directory h = (f .blocks-is, f .area-is, f .ranges-is, f .pending-ordered, f .current-ordered, f .migrated-within)
+  after-places trailer h = (f .blocks-is, f .area-is, f .ranges-is, f .pending-ordered, f .current-ordered, f .migrated-within)
+  after-places migration h = (f .blocks-is, f .area-is, f .ranges-is, f .pending-ordered, f .current-ordered, h)
+  after-places header h = (f .blocks-is, f .area-is, f .ranges-is, empty-ordered (s .current .first), f .current-ordered, omega arith)
+
+  pub follows-advance : (k : Kind) → advanceDue s ≡ some k → Follows blocks area ranges (afterKind k s) (putDown (some (kindWrite k s c)) c) (bookWrote k b)
+  follows-advance k e =
+      let h : Facts s k = subst (FactsOf s) e (due-facts s) in
+      let p = after-places k h in
+      record {
+        blocks-is = p .0;
+        area-is = p .1;
+        ranges-is = p .2;
+        invariant = rw (← (same-after k h), same-write s c k) (after-invariant k h);
+        pending-ordered = p .3;
+        current-ordered = p .4;
+        migrated-within = p .5;
+      }
+
+  -- ---- page-out
+
+  current-after : 0 < length (s .current .waiting) → sortedAfter currentOut (sorted s) ≡ sorted (currentTo (outOf (s .current)) s)
+  unfolding sortedAfter
+  current-after h = λ i. record {
+    area = s .area;
+    ranges = s .ranges;
+    memoryFrames = s .memoryFrames;
+    commit = s .commit;
+    committed = sortedCommitted (s .committed);
+    migrated = s .migrated;
+    pending = sortedGeneration (s .area) (s .pending);
+    tailDown = s .tailDown;
+    current = sym (sorted-out (s .area) (s .current) (f .current-ordered) h) i;
+  }
+
+  current-write : outWrite (s .area) (s .current) ≡ sortedWrite currentOut (sorted s) c
+  unfolding sortedWrite
+  current-write = λ i. record { block = ringAt (s .area) (s .current .first) (s .current .pagesDown); bytes = oldest-is (s .area) (s .current) i }
+
+  page-invariant : (h : 0 < length (s .pending .waiting)) → Invariant blocks (sorted (pendingTo (outOf (s .pending)) (s .tailDown) s)) (putDown (some (outWrite (s .area) (s .pending))) c) b
+  unfolding kindWrite afterKind
+  page-invariant h = rw (← (same-after page h)) (subst (λ (w : BlockWrite). Invariant blocks (sortedAfter pendingOut (sorted s)) (putBlock c (w .block) (w .bytes)) b) (sym (same-write s c page)) (after-invariant page h))
+
+  module _ (ok : firstNo (pageOutAsks s) ≡ 0) where
+    -- question 19
+    pub some-waits : 0 < length (s .pending .waiting) + length (s .current .waiting)
+    unfolding pageOutAsks
+    some-waits = ltb-true _ _ (passed-both 18 (ltb 0 (length (s .pending .waiting) + length (s .current .waiting))) [] ok .0)
+
+    pub follows-out : Follows blocks area ranges (afterPageOut s) (putDown (some (pageOutWrite s)) c) b
+    unfolding afterPageOut pageOutWrite
+    follows-out = go (ltb 0 (length (s .pending .waiting))) refl
+      where
+        go : (t : Bool) → ltb 0 (length (s .pending .waiting)) ≡ t
+            → Follows blocks area ranges (cond t (pendingTo (outOf (s .pending)) (s .tailDown) s) (currentTo (outOf (s .current)) s))
+            (putBlock c ((cond t (outWrite (s .area) (s .pending)) (outWrite (s .area) (s .current))) .block) ((cond t (outWrite (s .area) (s .pending)) (outWrite (s .area) (s .current))) .bytes)) b
+        go true e =
+            let h : 0 < length (s .pending .waiting) = ltb-true _ _ e in
+            record {
+              blocks-is = f .blocks-is;
+              area-is = f .area-is;
+              ranges-is = f .ranges-is;
+              invariant = page-invariant h;
+              pending-ordered = out-ordered (s .pending) (f .pending-ordered) h;
+              current-ordered = f .current-ordered;
+              migrated-within = f .migrated-within;
+            }
+        go false e =
+            let h : 0 < length (s .current .waiting) = omega (arith, some-waits, ltb-false 0 (length (s .pending .waiting)) e) in
+            record {
+              blocks-is = f .blocks-is;
+              area-is = f .area-is;
+              ranges-is = f .ranges-is;
+              invariant = rw (← (current-after h)) (subst (λ (w : BlockWrite). Invariant blocks (sortedAfter currentOut (sorted s)) (putBlock c (w .block) (w .bytes)) b) (sym current-write) (step-C blocks (sorted s) c b (f .invariant) (some-waiting (s .current) h)));
+              pending-ordered = f .pending-ordered;
+              current-ordered = out-ordered (s .current) (f .current-ordered) h;
+              migrated-within = f .migrated-within;
+            }
