@@ -102,8 +102,9 @@ pub record Changeable (s : Store) (memory : List ℕ) (w : FrameBytes) : Type 0 
   pub frame-whole : WholeFrame (s .geometry .area) (s .geometry .blocks) w
   pub room : firstNo (roomAsks (w ∷ []) (stateOf s memory)) ≡ 0
 
-pub record ChangeDone (s : Store) (memory : List ℕ) (w : FrameBytes) (t : Store) (after : List ℕ) : Type 0 where
-  pub meaning : stateOf t after ≡ afterChange (w ∷ []) (stateOf s memory)
+-- frames changed: what the record then means, and that it holds together
+pub record ChangeDone (s : Store) (memory : List ℕ) (ws : List FrameBytes) (t : Store) (after : List ℕ) : Type 0 where
+  pub meaning : stateOf t after ≡ afterChange ws (stateOf s memory)
   pub together : holdsTogether t ≡ true
   pub long : length after ≡ length memory
 
@@ -121,12 +122,6 @@ pub record Changing (s : Store) (memory names bytes : List ℕ) : Type 0 where
   pub named-once : once names ≡ true
   pub home : allWithin (s .geometry .area + 1) (s .geometry .blocks) names ≡ true
   pub bytes-long : length bytes ≡ 512 * length names
-
--- all of them, where there is room
-pub record AllChanged (s : Store) (memory names bytes : List ℕ) (t : Store) (after : List ℕ) : Type 0 where
-  pub meaning : stateOf t after ≡ afterChange (framesWith names bytes) (stateOf s memory)
-  pub together : holdsTogether t ≡ true
-  pub long : length after ≡ length memory
 
 -- the promise of a change, whatever card the record is lent with
 abbrev pub ChangeKept : Store → List ℕ → List ℕ → List ℕ → Done → List ℕ → Type 0
