@@ -29,7 +29,7 @@ use Rattle.recovery.specs.Book.{FrameBook, bookChange, bookSnapshot, boo
 use Rattle.recovery.specs.Contents.{FrameBytes}
 use Rattle.recovery.specs.Questions.{roomAsks, snapshotAsks, pageOutAsks}
 use Rattle.recovery.specs.Sound.{Ordered}
-use Rattle.recovery.specs.State.{State, entryCount, size, directoryOf}
+use Rattle.recovery.specs.State.{empty, State, entryCount, size, directoryOf}
 use Rattle.recovery.specs.Step.{pendingTo, currentTo, changeFrames, afterChange, afterSnapshot, Kind, page, directory, trailer, migration, header, outWrite, outOf, tailBytes, trailerBlockNo, nextMigration, kindWrite, afterKind, advanceDue, pageOutWrite, afterPageOut}
 use Rattle.recovery.specs.Write.{BlockWrite, putDown}
 
@@ -99,9 +99,24 @@ module _ (blocks area : ℕ) (ranges : List Range) (s : State) (c : List ℕ) (b
 
   -- ---- a snapshot
 
+  -- the mark: the next generation starts above the pending one's whole size
+  mark-is : ringAt (s .area) (s .current .first) (sizeOf (sortedGeneration (s .area) (s .current))) ≡ afterSnapshot s .current .first
+  unfolding afterSnapshot empty
+  mark-is = ap (ringAt (s .area) (s .current .first)) (sym (size-current f))
+
   sorted-snapshot : sortedSnapshot (sorted s) ≡ sorted (afterSnapshot s)
-  unfolding sortedSnapshot afterSnapshot
-  sorted-snapshot = rw (sorted-empty (s .area) (ringAt (s .area) (s .current .first) (size (s .current))), size-current f)
+  unfolding sortedSnapshot afterSnapshot empty
+  sorted-snapshot = λ i. record {
+    area = s .area;
+    ranges = s .ranges;
+    memoryFrames = s .memoryFrames;
+    commit = s .commit;
+    committed = sortedCommitted (s .committed);
+    migrated = s .migrated;
+    pending = sortedGeneration (s .area) (s .current);
+    tailDown = 0;
+    current = (ap sortedEmpty mark-is ∙ sym (sorted-empty (s .area) (afterSnapshot s .current .first))) i;
+  }
 
   pub follows-snapshot : firstNo (snapshotAsks s) ≡ 0 → Follows blocks area ranges (afterSnapshot s) c (bookSnapshot b)
   unfolding snapshotAsks

@@ -159,34 +159,53 @@ tail-test a b x y z = go (ltb a b) refl
     go true e = refl
     go false e = ap (λ (t : Bool). cond t y z) (same (ltb-false a b e) (eqb a b) refl)
 
-pub same-due : (s : State) → firstOf (remainingWrites s) ≡ advanceDue s
-unfolding remainingWrites advanceDue migrationDue
-same-due s = go (eqb (entryCount (s .pending)) 0)
-  where
-    rest : firstOf (replicate (length (s .pending .waiting)) page
-        ++ (replicate (dirBlocks (entryCount (s .pending)) - s .tailDown) directory ++ (replicate (1 - (s .tailDown - dirBlocks (entryCount (s .pending)))) trailer ++ (replicate (length (s .committed .entries) - s .migrated) migration ++ (header ∷ [])))))
-        ≡ cond (ltb 0 (length (s .pending .waiting))) (some page) (cond (ltb (s .tailDown) (dirBlocks (entryCount (s .pending)))) (some directory)
-        (cond (eqb (s .tailDown) (dirBlocks (entryCount (s .pending)))) (some trailer) (cond (ltb (s .migrated) (length (s .committed .entries))) (some migration) (some header))))
-    rest =
-        repeated (length (s .pending .waiting)) page _
-        ∙ ap (cond (ltb 0 (length (s .pending .waiting))) (some page))
-        (repeated (dirBlocks (entryCount (s .pending)) - s .tailDown) directory _
-        ∙ (rw (same-test (s .tailDown) (dirBlocks (entryCount (s .pending))))
-        (ap (cond (ltb (s .tailDown) (dirBlocks (entryCount (s .pending)))) (some directory))
-        (repeated (1 - (s .tailDown - dirBlocks (entryCount (s .pending)))) trailer _
-        ∙ ap (cond (ltb 0 (1 - (s .tailDown - dirBlocks (entryCount (s .pending))))) (some trailer)) (repeated (length (s .committed .entries) - s .migrated) migration (header ∷ []) ∙ last))
-        ∙ tail-test (s .tailDown) (dirBlocks (entryCount (s .pending))) (some directory) (some trailer) _)))
-      where
-        last : cond (ltb 0 (length (s .committed .entries) - s .migrated)) (some migration) (firstOf (header ∷ [])) ≡ cond (ltb (s .migrated) (length (s .committed .entries))) (some migration) (some header)
-        last = unfold firstOf in (ap (λ (t : Bool). cond t (some migration) (some header)) (same-test (s .migrated) (length (s .committed .entries))))
+module _ (s : State) where
+  -- the first write that remains, by document 01's order: P, D, T, M, H with a snapshot pending, else only M
+  abbrev firstRemaining : Option Kind
+  firstRemaining = cond (eqb (entryCount (s .pending)) 0) (cond (ltb (s .migrated) (length (s .committed .entries))) (some migration) none)
+      (cond (ltb 0 (length (s .pending .waiting))) (some page)
+      (cond (ltb (s .tailDown) (dirBlocks (entryCount (s .pending)))) (some directory)
+      (cond (eqb (s .tailDown) (dirBlocks (entryCount (s .pending)))) (some trailer)
+      (cond (ltb (s .migrated) (length (s .committed .entries))) (some migration) (some header)))))
 
-    go : (t : Bool) → firstOf (cond t (replicate (length (s .committed .entries) - s .migrated) migration) (replicate (length (s .pending .waiting)) page
-        ++ (replicate (dirBlocks (entryCount (s .pending)) - s .tailDown) directory ++ (replicate (1 - (s .tailDown - dirBlocks (entryCount (s .pending)))) trailer ++ (replicate (length (s .committed .entries) - s .migrated) migration ++ (header ∷ []))))))
-        ≡ cond t (cond (ltb (s .migrated) (length (s .committed .entries))) (some migration) none)
-        (cond (ltb 0 (length (s .pending .waiting))) (some page) (cond (ltb (s .tailDown) (dirBlocks (entryCount (s .pending)))) (some directory)
-        (cond (eqb (s .tailDown) (dirBlocks (entryCount (s .pending)))) (some trailer) (cond (ltb (s .migrated) (length (s .committed .entries))) (some migration) (some header)))))
-    go true = repeated-only (length (s .committed .entries) - s .migrated) migration ∙ ap (λ (t : Bool). cond t (some migration) none) (same-test (s .migrated) (length (s .committed .entries)))
-    go false = rest
+  remaining-first : firstOf (remainingWrites s) ≡ firstRemaining
+  unfolding remainingWrites
+  remaining-first = go (eqb (entryCount (s .pending)) 0)
+    where
+      moves : List Kind
+      moves = replicate (length (s .committed .entries) - s .migrated) migration
+
+      last : firstOf (moves ++ (header ∷ [])) ≡ cond (ltb (s .migrated) (length (s .committed .entries))) (some migration) (some header)
+      last = repeated (length (s .committed .entries) - s .migrated) migration (header ∷ [])
+          ∙ (unfold firstOf in (ap (λ (t : Bool). cond t (some migration) (some header)) (same-test (s .migrated) (length (s .committed .entries)))))
+
+      writes : List Kind
+      writes = replicate (length (s .pending .waiting)) page
+          ++ (replicate (dirBlocks (entryCount (s .pending)) - s .tailDown) directory ++ (replicate (1 - (s .tailDown - dirBlocks (entryCount (s .pending)))) trailer ++ (moves ++ (header ∷ []))))
+
+      rest : firstOf writes ≡ cond (ltb 0 (length (s .pending .waiting))) (some page) (cond (ltb (s .tailDown) (dirBlocks (entryCount (s .pending)))) (some directory)
+          (cond (eqb (s .tailDown) (dirBlocks (entryCount (s .pending)))) (some trailer) (cond (ltb (s .migrated) (length (s .committed .entries))) (some migration) (some header))))
+      rest =
+          repeated (length (s .pending .waiting)) page _
+          ∙ ap (cond (ltb 0 (length (s .pending .waiting))) (some page))
+          (repeated (dirBlocks (entryCount (s .pending)) - s .tailDown) directory _
+          ∙ (rw (same-test (s .tailDown) (dirBlocks (entryCount (s .pending))))
+          (ap (cond (ltb (s .tailDown) (dirBlocks (entryCount (s .pending)))) (some directory))
+          (repeated (1 - (s .tailDown - dirBlocks (entryCount (s .pending)))) trailer _ ∙ ap (cond (ltb 0 (1 - (s .tailDown - dirBlocks (entryCount (s .pending))))) (some trailer)) last)
+          ∙ tail-test (s .tailDown) (dirBlocks (entryCount (s .pending))) (some directory) (some trailer) _)))
+
+      go : (t : Bool) → firstOf (cond t moves writes) ≡ cond t (cond (ltb (s .migrated) (length (s .committed .entries))) (some migration) none)
+          (cond (ltb 0 (length (s .pending .waiting))) (some page) (cond (ltb (s .tailDown) (dirBlocks (entryCount (s .pending)))) (some directory)
+          (cond (eqb (s .tailDown) (dirBlocks (entryCount (s .pending)))) (some trailer) (cond (ltb (s .migrated) (length (s .committed .entries))) (some migration) (some header)))))
+      go true = repeated-only (length (s .committed .entries) - s .migrated) migration ∙ ap (λ (t : Bool). cond t (some migration) none) (same-test (s .migrated) (length (s .committed .entries)))
+      go false = rest
+
+  due-first : firstRemaining ≡ advanceDue s
+  unfolding advanceDue migrationDue
+  due-first = refl
+
+  pub same-due : firstOf (remainingWrites s) ≡ advanceDue s
+  same-due = remaining-first ∙ due-first
 
 -- an advance is due exactly where a write remains
 pub given-first : (ks : List Kind) → given (firstOf ks) ≡ ltb 0 (length ks)
