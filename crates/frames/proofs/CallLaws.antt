@@ -15,7 +15,7 @@ use Rattle.card.specs.Question.{firstNo, cardAsks}
 use Rattle.frames.proofs.KeepLaws.{kept-done, numbered-done, refused-by}
 use Rattle.frames.proofs.ReadyLaws.{common-passed, common-refused}
 use Rattle.frames.specs.Promise.{lent, commonAsks, start, snapshot, pageOut, asks, doneAnswer, doneWrite, after, FrameKept, numbered}
-use Rattle.frames.specs.Step.{WriteDone, StepDone, Started}
+use Rattle.frames.specs.Parts.{WriteDone, StepDone, Started}
 use Rattle.frames.specs.declared.answer.Wrote.{Wrote}
 use Rattle.record.proofs.SoundLaws.{notes-length, queue-length}
 use Rattle.record.specs.Meaning.{waits, notesOf, queueOf, stateOf, zeroStore}

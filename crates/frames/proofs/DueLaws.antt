@@ -16,7 +16,7 @@ use Rattle.card.specs.Ring.{dirBlocks}
 use Rattle.frames.proofs.KeepLaws.{kept-refused, kept-done}
 use Rattle.frames.proofs.ReadyLaws.{common-passed, common-refused}
 use Rattle.frames.specs.Promise.{lent, commonAsks, advance, refused, wrote, asks, advanceAnswer, advanceWrite, advanced, doneAnswer, doneWrite, after, FrameKept}
-use Rattle.frames.specs.Step.{WriteDone}
+use Rattle.frames.specs.Parts.{WriteDone}
 use Rattle.frames.specs.declared.answer.Wrote.{Wrote}
 use Rattle.record.proofs.SoundLaws.{notes-length, queue-length}
 use Rattle.record.specs.Meaning.{waits, notesOf, stateOf}

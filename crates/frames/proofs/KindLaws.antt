@@ -23,7 +23,7 @@ use Rattle.card.specs.Trailer.{trailerBlock}
 use Rattle.card.specs.declared.directory.Directory.{Directory}
 use Rattle.frames.proofs.ReadyLaws.{firsts}
 use Rattle.frames.proofs.RisingLaws.{dir-inside}
-use Rattle.frames.specs.Step.{Sorted, KindDone, StepDone}
+use Rattle.frames.specs.Parts.{Sorted, KindDone, StepDone}
 use Rattle.record.proofs.Held.{Held, together, bounds}
 use Rattle.record.proofs.NoneLaws.{none-means, none-size, none-waits}
 use Rattle.record.proofs.SoundLaws.{notes-length, ordered, listed-home, queue-length, entry-inside}

@@ -14,7 +14,7 @@ use Rattle.card.specs.Directory.{entryIn, entriesOf}
 use Rattle.card.specs.Ring.{ringAt}
 use Rattle.card.specs.declared.directory.Entry.{Entry}
 use Rattle.frames.proofs.ReadyLaws.{firsts}
-use Rattle.frames.specs.Step.{Located, foundBytes, committedBytes}
+use Rattle.frames.specs.Parts.{Located, foundBytes, committedBytes}
 use Rattle.frames.specs.declared.answer.Found.{Found}
 use Rattle.record.proofs.Held.{Listed, Held, held, bounds}
 use Rattle.record.proofs.ListLaws.{first-none, first-found}

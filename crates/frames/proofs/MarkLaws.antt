@@ -10,7 +10,7 @@ use Rattle.card.proofs.RingLaws.{on-on}
 use Rattle.card.specs.Range.{rangesOf}
 use Rattle.card.specs.Ring.{ringAt, generationSize}
 use Rattle.frames.proofs.QueueLaws.{bytesFrom}
-use Rattle.frames.specs.Step.{StepDone}
+use Rattle.frames.specs.Parts.{StepDone}
 use Rattle.record.proofs.Held.{Held, held, together}
 use Rattle.record.proofs.NoneLaws.{none-means, none-size, none-listed}
 use Rattle.record.proofs.SoundLaws.{current-size}

@@ -12,7 +12,7 @@ use Rattle.card.specs.Range.{rangesOf}
 use Rattle.card.specs.Ring.{ringAt}
 use Rattle.frames.proofs.QueueLaws.{bytesFrom, queue-next, queue-tail, queue-oldest}
 use Rattle.frames.proofs.ReadyLaws.{Ready}
-use Rattle.frames.specs.Step.{WriteDone}
+use Rattle.frames.specs.Parts.{WriteDone}
 use Rattle.record.proofs.Held.{Listed, Held, held, together}
 use Rattle.record.proofs.SeatLaws.{seat-low}
 use Rattle.record.specs.Meaning.{waits, notesOf, seatAt, committedOf, pendingFirst, currentFirst, stateOf}

@@ -18,7 +18,7 @@ use Rattle.card.specs.Bytes.{All}
 use Rattle.card.specs.Question.{Question, firstNo}
 use Rattle.card.specs.Ring.{ringAt}
 use Rattle.frames.specs.Promise.{commonAsks}
-use Rattle.frames.specs.Step.{Writable}
+use Rattle.frames.specs.Parts.{Writable}
 use Rattle.record.proofs.Held.{Held, held, bounds}
 use Rattle.record.specs.Holds.{holdsTogether}
 use Rattle.record.specs.Meaning.{sizeOf, committedSizeOf, pendingFirst, currentFirst}

@@ -24,7 +24,7 @@ use Rattle.card.specs.Range.{geometryFits}
 use Rattle.card.specs.Ring.{ringAt, half, generationSize}
 use Rattle.card.specs.declared.checkpoint.Checkpoint.{Checkpoint}
 use Rattle.card.specs.declared.trailer.Trailer.{Trailer}
-use Rattle.frames.specs.Step.{Startable, Started}
+use Rattle.frames.specs.Parts.{Startable, Started}
 use Rattle.record.proofs.Held.{Held, together}
 use Rattle.record.proofs.NoneLaws.{none-means, none-size, none-listed}
 use Rattle.record.proofs.SoundLaws.{committed-size}

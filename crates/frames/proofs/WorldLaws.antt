@@ -63,7 +63,7 @@ zeros-refused l z h =
     omega (arith, r .frames-low, ap (λ (s : Store). s .frames) z)
 
 -- question 1: whole memory frames, as many as are said
-abbrev MemorySaid : ℕ → ℕ → Type 0
+abbrev pub MemorySaid : ℕ → ℕ → Type 0
 MemorySaid memory frames = whole 4 64 memory && eqb memory (512 * frames) ≡ true
 
 common-memory : (l : Lent) → firstNo (common l) ≡ 0 → MemorySaid (length (l .memory)) (l .store .frames)
@@ -97,6 +97,36 @@ advanced-frames (some k) s = kind-frames k s
 out-frames : (s : State) → afterPageOut s .memoryFrames ≡ s .memoryFrames
 unfolding afterPageOut
 out-frames s = byTest (λ (x : State). x .memoryFrames ≡ s .memoryFrames) (ltb 0 (length (s .pending .waiting))) (λ t. refl) (λ t. refl)
+
+-- ---- the record that a call, done, hands back
+
+-- start's record tells of the memory that start is lent
+abbrev pub LentMemory : FrameCall → Lent → Type 0
+LentMemory (start m) l = l .memory ≡ m
+LentMemory (change ws) l = Unit {0}
+LentMemory snapshot l = Unit {0}
+LentMemory pageOut l = Unit {0}
+LentMemory advance l = Unit {0}
+
+own-memory : (l : Lent) (own : List Question) (n : ℕ) → n ≡ l .store .frames → firstNo (common l ++ own) ≡ 0 → MemorySaid (length (l .memory)) n
+own-memory l own n e h = rw e (common-memory l (common-both (l .store) (length (l .memory)) (length (l .card)) own h .0))
+
+after-memory : (c : FrameCall) (l : Lent) → LentMemory c l → firstNo (asks c l) ≡ 0 → MemorySaid (length (l .memory)) (after c l .memoryFrames)
+unfolding asks after startAsks startState afterChange afterSnapshot
+after-memory (start m) l o h =
+    let w = passed-both 0 (whole 4 64 (length m)) _ h .0 in
+    rw o (sym (whole-said 4 64 (length m) (length m / 512) w) ∙ eq-eqb (length m / 512) (length m / 512) refl)
+after-memory (change ws) l o h = own-memory l (roomAsks ws (meaningOf l)) _ refl h
+after-memory snapshot l o h = own-memory l (snapshotAsks (meaningOf l)) _ refl h
+after-memory pageOut l o h = own-memory l (pageOutAsks (meaningOf l)) _ (out-frames (meaningOf l)) h
+after-memory advance l o h = own-memory l (advanceAsks (meaningOf l)) _ (advanced-frames (advanceDue (meaningOf l)) (meaningOf l)) h
+
+-- it passes questions 1 and 2, whatever record the call was lent
+pub passes-again : (c : FrameCall) (l l′ : Lent) (a : FrameAnswer) → LentMemory c l → FrameKept c l a l′ → firstNo (asks c l) ≡ 0
+    → MemorySaid (length (l′ .memory)) (l′ .store .frames) × (holdsTogether (l′ .store) ≡ true)
+passes-again c l l′ a o p e =
+    let frames-is : l′ .store .frames ≡ after c l .memoryFrames = ap (λ (s : State). s .memoryFrames) (p .meaning e) in
+    (rw (p .long, frames-is) (after-memory c l o e), p .sound-is e)
 
 -- ---- what is held, and what is lent
 
@@ -143,6 +173,13 @@ module _ (blocks area : ℕ) (ranges : List Range) where
     lent-stored pageOut o = standing-stored l b o
     lent-stored advance o = standing-stored l b o
 
+    lent-memory : (c : FrameCall) → LentOk c l b → LentMemory c l
+    lent-memory (start m) o = o .0
+    lent-memory (change ws) o = tt
+    lent-memory snapshot o = tt
+    lent-memory pageOut o = tt
+    lent-memory advance o = tt
+
     -- refused
     lent-back : (c : FrameCall) → LentOk c l b → Standing blocks area ranges (handedBack c l) b
     lent-back (start m) o = idle refl (o .1)
@@ -173,19 +210,6 @@ module _ (blocks area : ℕ) (ranges : List Range) where
         let d = advance-due (meaningOf l) (q .1) in
         rw (d .1) (follows-advance blocks area ranges (meaningOf l) (l .card) b (q .0) (d .0) (d .1))
 
-    own-memory : (own : List Question) (n : ℕ) → n ≡ l .store .frames → firstNo (common l ++ own) ≡ 0 → MemorySaid (length (l .memory)) n
-    own-memory own n e h = rw e (common-memory l (common-both (l .store) (length (l .memory)) (length (l .card)) own h .0))
-
-    lent-memory : (c : FrameCall) → LentOk c l b → firstNo (asks c l) ≡ 0 → MemorySaid (length (l .memory)) (after c l .memoryFrames)
-    unfolding asks after startAsks startState afterChange afterSnapshot
-    lent-memory (start m) o h =
-        let w = passed-both 0 (whole 4 64 (length m)) _ h .0 in
-        rw (o .0) (sym (whole-said 4 64 (length m) (length m / 512) w) ∙ eq-eqb (length m / 512) (length m / 512) refl)
-    lent-memory (change ws) o h = own-memory (roomAsks ws (meaningOf l)) _ refl h
-    lent-memory snapshot o h = own-memory (snapshotAsks (meaningOf l)) _ refl h
-    lent-memory pageOut o h = own-memory (pageOutAsks (meaningOf l)) _ (out-frames (meaningOf l)) h
-    lent-memory advance o h = own-memory (advanceAsks (meaningOf l)) _ (advanced-frames (advanceDue (meaningOf l)) (meaningOf l)) h
-
     -- cut off: only advance writes a header
     lent-cut : (c : FrameCall) → LentOk c l b → firstNo (asks c l) ≡ 0 → (c′ : List ℕ) (b′ : FrameBook) → Left (doneWrite c l) (l .card) c′ → CutBook (doneWrite c l) c′ b b′
         → Stored blocks area ranges c′ (b′ .kept)
@@ -211,8 +235,8 @@ module _ (blocks area : ℕ) (ranges : List Range) where
 
       pub done-common : Asked c l → (l′ : Lent) (a : FrameAnswer) → FrameKept c l a l′ → firstNo (asks c l) ≡ 0 → firstNo (common l′) ≡ 0
       done-common asked l′ a p e =
-          let frames-is : l′ .store .frames ≡ after c l .memoryFrames = ap (λ (s : State). s .memoryFrames) (p .meaning e) in
-          follows-common l′ (told c a b) (done-follows asked l′ a p e) (rw (p .long, frames-is) (lent-memory c o e)) (p .sound-is e)
+          let q = passes-again c l l′ a (lent-memory c o) p e in
+          follows-common l′ (told c a b) (done-follows asked l′ a p e) (q .0) (q .1)
 
       -- what a call hands back, and what a cut in it leaves
       pub called-ok : Asked c l → (l′ : Lent) (a : FrameAnswer) → FrameKept c l a l′ → Standing blocks area ranges l′ (told c a b)

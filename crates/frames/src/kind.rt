@@ -18,7 +18,7 @@ ghost use Rattle.card.specs.Ring.{dirBlocks};
 ghost use Rattle.record.specs.Holds.{holdsTogether};
 ghost use Rattle.record.specs.Meaning.{waits};
 ghost use Rattle.recovery.specs.Step.{directory, trailer, migration, header, afterKind};
-ghost use Rattle.frames.specs.Step.{KindDone, StepDone, Writable};
+ghost use Rattle.frames.specs.Parts.{KindDone, StepDone, Writable};
 
 // One block more of the pending directory and trailer is down.
 fn tail_down(s: Store) -> Store

@@ -13,7 +13,7 @@ ghost use lib.ListN.{length};
 ghost use Rattle.card.specs.Question.{firstNo};
 ghost use Rattle.record.specs.Holds.{holdsTogether};
 ghost use Rattle.frames.specs.Promise.{commonAsks, lent, Loads};
-ghost use Rattle.frames.specs.Step.{Located, committedBytes, pendingBytes, newestBytes};
+ghost use Rattle.frames.specs.Parts.{Located, committedBytes, pendingBytes, newestBytes};
 
 fn in_committed(s: Store, frame: u32) -> Found
     requires { ⌜ (holdsTogether s ≡ true) × (frame < s .geometry .blocks) ⌝ }

@@ -13,7 +13,7 @@ ghost use Rattle.card.specs.Question.{firstNo};
 ghost use Rattle.record.specs.Meaning.{stateOf};
 ghost use Rattle.recovery.specs.Step.{outWrite, outOf, pendingTo, currentTo};
 ghost use Rattle.frames.specs.Promise.{commonAsks, pageOut, lent, numbered, FrameKept};
-ghost use Rattle.frames.specs.Step.{WriteDone};
+ghost use Rattle.frames.specs.Parts.{WriteDone};
 
 // The oldest frame that waits for the pending snapshot.
 pub fn pending(s: Store, card: &mut [u8], memory: &[u8]) -> Wrote

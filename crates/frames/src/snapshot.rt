@@ -9,7 +9,7 @@ ghost use Prim.Native.Nat.{_<_};
 ghost use Rattle.record.specs.Holds.{holdsTogether};
 ghost use Rattle.recovery.specs.Step.{afterSnapshot};
 ghost use Rattle.frames.specs.Promise.{snapshot, lent, numbered, FrameKept};
-ghost use Rattle.frames.specs.Step.{StepDone};
+ghost use Rattle.frames.specs.Parts.{StepDone};
 
 fn mark(s: Store) -> Store
     requires { ⌜ (holdsTogether s ≡ true) × ((s .pending .count ≡ 0) × ((0 < s .current .count) × (s .commit < 4294967295))) ⌝ }

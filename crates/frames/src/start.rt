@@ -12,7 +12,7 @@ ghost use Prim.Native.Nat.{_≤_};
 ghost use lib.ListN.{length};
 ghost use Rattle.record.specs.Meaning.{zeroStore};
 ghost use Rattle.frames.specs.Promise.{start, lent, numbered, FrameKept};
-ghost use Rattle.frames.specs.Step.{Started, Startable};
+ghost use Rattle.frames.specs.Parts.{Started, Startable};
 
 // The record of a card that has passed: nothing is migrated, nothing has changed.
 fn recovered(card: &[u8], memory: &[u8], c: Checkpoint) -> Store

@@ -115,7 +115,7 @@ fn sizes_hold(area: usize, p: usize, e: usize, q: usize, f: usize, r: usize, g: 
     size(p, e) + size(q, f) + size(r, g) <= area
 }
 
-pub fn tail_for(e: usize) -> usize
+fn tail_for(e: usize) -> usize
     requires { ⌜ e ≤ 65536 ⌝ }
     ensures { λ r. ⌜ r ≡ tailFor e ⌝ }
 {

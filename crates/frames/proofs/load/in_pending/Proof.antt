@@ -5,7 +5,7 @@ use mathlib.Core.Path.{ap, sym, _∙_}
 use native.Mathlib.Nat.{zero-add}
 use native.Mathlib.Omega.{arith}
 use Rattle.frames.proofs.LoadLaws.{at-turn, pending-placed, under, index-in, ring-in, at-place, turn-in}
-use Rattle.frames.specs.Step.{committedBytes}
+use Rattle.frames.specs.Parts.{committedBytes}
 use Rattle.record.specs.Meaning.{seatAt}
 use Rattle.frames.proofs.load.in_pending.Statement.{statement}
 use Rattle.frames.proofs.load.in_pending.Tie as tie

@@ -3,7 +3,7 @@
 use borrow.Author.Needs.{needs}
 use native.Mathlib.Omega.{arith}
 use Rattle.frames.proofs.LoadLaws.{at-turn, current-placed, under, index-in, ring-in, at-place, turn-in}
-use Rattle.frames.specs.Step.{pendingBytes}
+use Rattle.frames.specs.Parts.{pendingBytes}
 use Rattle.record.proofs.Held.{held}
 use Rattle.recovery.specs.State.{readFrame}
 use Rattle.frames.proofs.load.newest.Statement.{statement}
