@@ -25,12 +25,12 @@ use Rattle.frames.proofs.ReadyLaws.{firsts}
 use Rattle.frames.proofs.RisingLaws.{dir-inside}
 use Rattle.frames.specs.Parts.{Sorted, KindDone, StepDone}
 use Rattle.record.proofs.Held.{Held, together, bounds}
-use Rattle.record.proofs.NoneLaws.{none-means, none-size, none-waits}
+use Rattle.record.proofs.NoneLaws.{NoChange, none-means, none-size, none-waits}
 use Rattle.record.proofs.SoundLaws.{notes-length, ordered, listed-home, queue-length, entry-inside}
 use Rattle.record.proofs.Tests.{each-within, apart-once}
 use Rattle.record.specs.Holds.{tailFor}
 use Rattle.record.specs.Lists.{cells, once, allWithin}
-use Rattle.record.specs.Meaning.{waits, sizeOf, notesOf, committedSizeOf, queueOf, pendingFirst, currentFirst, stateOf, NoChange}
+use Rattle.record.specs.Meaning.{waits, sizeOf, notesOf, committedSizeOf, queueOf, pendingFirst, currentFirst, stateOf}
 use Rattle.record.specs.declared.store.Changes.{Changes}
 use Rattle.record.specs.declared.store.Store.{Store}
 use Rattle.recovery.proofs.Accept.{entries-ok}

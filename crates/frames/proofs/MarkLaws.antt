@@ -12,10 +12,10 @@ use Rattle.card.specs.Ring.{ringAt, generationSize}
 use Rattle.frames.proofs.QueueLaws.{bytesFrom}
 use Rattle.frames.specs.Parts.{StepDone}
 use Rattle.record.proofs.Held.{Held, held, together}
-use Rattle.record.proofs.NoneLaws.{none-means, none-size, none-listed}
+use Rattle.record.proofs.NoneLaws.{NoChange, none-means, none-size, none-listed}
 use Rattle.record.proofs.SoundLaws.{current-size}
 use Rattle.record.specs.Holds.{holdsTogether}
-use Rattle.record.specs.Meaning.{waits, sizeOf, notesOf, committedSizeOf, committedOf, pendingFirst, currentFirst, stateOf, NoChange}
+use Rattle.record.specs.Meaning.{waits, sizeOf, notesOf, committedSizeOf, committedOf, pendingFirst, currentFirst, stateOf}
 use Rattle.record.specs.declared.store.Changes.{Changes}
 use Rattle.record.specs.declared.store.Store.{Store}
 use Rattle.recovery.specs.State.{size, empty}

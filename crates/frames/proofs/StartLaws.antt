@@ -26,9 +26,9 @@ use Rattle.card.specs.declared.checkpoint.Checkpoint.{Checkpoint}
 use Rattle.card.specs.declared.trailer.Trailer.{Trailer}
 use Rattle.frames.specs.Parts.{Startable, Started}
 use Rattle.record.proofs.Held.{Held, together}
-use Rattle.record.proofs.NoneLaws.{none-means, none-size, none-listed}
+use Rattle.record.proofs.NoneLaws.{NoChange, none-means, none-size, none-listed}
 use Rattle.record.proofs.SoundLaws.{committed-size}
-use Rattle.record.specs.Meaning.{waits, committedOf, pendingFirst, currentFirst, stateOf, NoChange}
+use Rattle.record.specs.Meaning.{waits, committedOf, pendingFirst, currentFirst, stateOf}
 use Rattle.record.specs.declared.store.Changes.{Changes}
 use Rattle.record.specs.declared.store.Store.{Store}
 use Rattle.recovery.specs.State.{committedSize, empty}

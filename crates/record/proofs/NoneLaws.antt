@@ -2,15 +2,23 @@
 -- Assumes nothing.
 use Prim.Native.Nat.{ℕ}
 use mathlib.Core.List.{List, []}
-use mathlib.Core.Path.{_≡_}
+use mathlib.Core.Path.{_≡_, ap}
 use native.Mathlib.Omega.{arith}
 use Rattle.card.proofs.BytesLaws.{tab-none}
 use Rattle.card.proofs.RingLaws.{size-none}
 use Rattle.card.specs.Bytes.{tabulate}
 use Rattle.record.proofs.Held.{Listed}
-use Rattle.record.specs.Meaning.{sizeOf, waits, notesOf, generationOf, NoChange}
+use Rattle.record.specs.Meaning.{sizeOf, waits, notesOf, generationOf, zeroChanges}
 use Rattle.record.specs.declared.store.Changes.{Changes}
 use Rattle.recovery.specs.State.{empty}
+
+pub record NoChange (g : Changes) : Type 0 where
+  pub count : g .count ≡ 0
+  pub taken : g .taken ≡ 0
+  pub down : g .down ≡ 0
+
+pub none-is : (g : Changes) → g ≡ zeroChanges → NoChange g
+none-is g e = record { count = ap (λ (x : Changes). x .count) e; taken = ap (λ (x : Changes). x .taken) e; down = ap (λ (x : Changes). x .down) e }
 
 module _ (g : Changes) (none : NoChange g) where
   pub none-waits : waits g ≡ 0

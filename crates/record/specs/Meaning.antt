@@ -72,11 +72,6 @@ stateOf s memory = record {
 -- ---- the record without content
 
 -- a generation without a change
-pub record NoChange (g : Changes) : Type 0 where
-  pub count : g .count ≡ 0
-  pub taken : g .taken ≡ 0
-  pub down : g .down ≡ 0
-
 abbrev pub zeroChanges : Changes
 zeroChanges = record { count = 0; taken = 0; down = 0; frames = replicate 256 0; places = replicate 256 0 }
 

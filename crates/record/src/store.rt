@@ -1,7 +1,7 @@
 // The record: what the store knows between calls.
 use card::directory::Directory;
 ghost use mathlib.Core.Path.{_≡_};
-ghost use Rattle.record.specs.Meaning.{zeroStore, NoChange};
+ghost use Rattle.record.specs.Meaning.{zeroChanges, zeroStore};
 
 // The card's size, A, and the ranges: first OID and number of pages of each in turn.
 #[repr(C)]
@@ -42,7 +42,7 @@ pub struct Store {
 
 // A generation without a change.
 pub fn no_change() -> Changes
-    ensures { λ r. ⌜ NoChange r ⌝ }
+    ensures { λ r. ⌜ r ≡ zeroChanges ⌝ }
 {
     Changes {
         count: 0,
@@ -68,20 +68,8 @@ pub fn zeros() -> Store
         frames: [0u32; 256],
         blocks: [0u32; 256],
     };
-    let pending = Changes {
-        count: 0,
-        taken: 0,
-        down: 0,
-        frames: [0u32; 256],
-        places: [0u32; 256],
-    };
-    let current = Changes {
-        count: 0,
-        taken: 0,
-        down: 0,
-        frames: [0u32; 256],
-        places: [0u32; 256],
-    };
+    let pending = no_change();
+    let current = no_change();
     Store {
         frames: 0,
         head: 0,

@@ -4,6 +4,7 @@ use borrow.Author.Needs.{needs}
 use native.Mathlib.Omega.{arith}
 use Rattle.frames.proofs.KindLaws.{sortable, commit-step}
 use Rattle.record.proofs.Held.{held}
+use Rattle.record.proofs.NoneLaws.{none-is}
 use Rattle.frames.proofs.kind.commit.Statement.{statement}
 use Rattle.frames.proofs.kind.commit.Tie as tie
 
@@ -29,7 +30,7 @@ returns c =
     let h = held s (at-start .pre .0) in
     let still = at-start .pre .1 .0 in
     let any = at-start .pre .1 .1 in
-    commit-step s h still any _ _ _ (c .before .before .before .before .pending-first .ensures) (c .before .before .sorted .ensures) (c .before .no-change .ensures)
+    commit-step s h still any _ _ _ (c .before .before .before .before .pending-first .ensures) (c .before .before .sorted .ensures) (none-is _ (c .before .no-change .ensures))
 
 pub commit-spec : {M : Type 1} → statement M
 commit-spec =

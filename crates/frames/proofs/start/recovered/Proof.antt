@@ -2,13 +2,14 @@
 -- Assumes nothing.
 use borrow.Author.Needs.{needs}
 use Rattle.frames.proofs.StartLaws.{started}
+use Rattle.record.proofs.NoneLaws.{none-is}
 use Rattle.frames.proofs.start.recovered.Statement.{statement}
 use Rattle.frames.proofs.start.recovered.Tie as tie
 
 returns : tie.Need-returns
 returns c =
     let at-start = c .before .before .before .before .before .before .before .before in
-    started (at-start .args .memory .now) (at-start .args .card .now) (at-start .args .c) (at-start .pre) (c .before .no-change .result) (c .no-change2 .result) (c .before .no-change .ensures) (c .no-change2 .ensures)
+    started (at-start .args .memory .now) (at-start .args .card .now) (at-start .args .c) (at-start .pre) (c .before .no-change .result) (c .no-change2 .result) (none-is _ (c .before .no-change .ensures)) (none-is _ (c .no-change2 .ensures))
 
 pub recovered-spec : {M : Type 1} → statement M
 recovered-spec =
