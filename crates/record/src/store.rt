@@ -24,7 +24,8 @@ pub struct Changes {
 }
 
 // `frames` is the number of memory frames. Those that wait stand in them one after the other from `head` on, the pending ones first; after the last comes
-// the first. `first`, `pages` and `committed` are the committed generation's first block, its p, and its directory by rising frame. `migrated` counts committed entries copied home, `tail` the pending directory's and trailer's blocks that are down.
+// the first. `first`, `pages` and `committed` are the committed generation's first block, its p, and its directory by rising frame. `migrated` counts
+// committed entries copied home, `tail` the pending directory's and trailer's blocks that are down.
 #[repr(C)]
 pub struct Store {
     pub frames: usize,

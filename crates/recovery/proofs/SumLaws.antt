@@ -15,10 +15,10 @@ use Rattle.card.specs.Bytes.{All}
 use Rattle.card.specs.Ring.{dirBlocks}
 use Rattle.recovery.specs.Contents.{FrameBytes}
 use Rattle.recovery.specs.Directory.{Note, noteChange, turnOf}
-use Rattle.recovery.specs.Questions.{newPlaces, roomAsks, snapshotAsks, pageOutAsks, given, advanceAsks}
+use Rattle.recovery.specs.Questions.{newPlaces, roomAsks, given, advanceAsks}
 use Rattle.recovery.specs.State.{Generation, State, places, entryCount, size, committedSize}
 use Rattle.recovery.specs.Step.{queued, changeFrame, changeFrames, afterChange, Kind, page, directory, trailer, migration, header, migrationDue, advanceDue}
-use Rattle.recovery.specs.Sums.{isSome, waitsIn, notedIn, placesNeeded, entriesNeeded, remainingWrites, firstOf, roomSums, snapshotSums, pageOutSums, advanceSums}
+use Rattle.recovery.specs.Sums.{isSome, waitsIn, notedIn, placesNeeded, entriesNeeded, remainingWrites, firstOf, roomSums, advanceSums}
 
 -- no frame twice
 abbrev pub Distinct : List FrameBytes → Type 0
@@ -212,14 +212,6 @@ pub given-first : (ks : List Kind) → given (firstOf ks) ≡ ltb 0 (length ks)
 unfolding firstOf
 given-first [] = refl
 given-first (k ∷ ks) = sym (lt-ltb 0 (suc (length ks)) (omega arith))
-
-pub same-snapshot : (s : State) → snapshotAsks s ≡ snapshotSums s
-unfolding snapshotAsks snapshotSums
-same-snapshot s = refl
-
-pub same-pageOut : (s : State) → pageOutAsks s ≡ pageOutSums s
-unfolding pageOutAsks pageOutSums
-same-pageOut s = refl
 
 pub same-advance : (s : State) → advanceAsks s ≡ advanceSums s
 unfolding advanceAsks advanceSums

@@ -1,6 +1,6 @@
 -- The frame layer's questions, in document 01's order: the first "no" gives the number.
 -- Assumes nothing.
-use Prim.Native.Nat.{ℕ, _+_, _-_, _*_, _/_}
+use Prim.Native.Nat.{ℕ, _+_, _-_, _*_}
 use lib.Dec.{leb, ltb, eqb}
 use lib.ListN.{length}
 use mathlib.Core.Bool.{Bool, true, false, cond, _&&_}
@@ -8,6 +8,7 @@ use mathlib.Core.List.{List, [], _∷_}
 use mathlib.Core.Option.{Option, none, some}
 use Rattle.card.specs.Block.{whole}
 use Rattle.card.specs.Question.{Question, ask, cardAsks}
+use Rattle.card.specs.Ring.{half}
 use Rattle.recovery.specs.Contents.{FrameBytes}
 use Rattle.recovery.specs.State.{State, places, entryCount, size, committedSize}
 use Rattle.recovery.specs.Step.{afterChange, Kind, advanceDue}
@@ -33,7 +34,7 @@ newPlaces ws s = places (afterChange ws s .current) - places (s .current)
 unfoldable pub roomAsks : List FrameBytes → State → List Question
 roomAsks ws s =
     cond (eqb (newPlaces ws s) 0) []
-    (ask 12 (leb (size (afterChange ws s .current)) (s .area / 2))
+    (ask 12 (leb (size (afterChange ws s .current)) (half (s .area)))
     ∷ ask 13 (leb (committedSize (s .committed) + size (s .pending) + size (afterChange ws s .current)) (s .area))
     ∷ ask 14 (leb (length (s .pending .waiting) + length (s .current .waiting) + newPlaces ws s) (s .memoryFrames)) ∷ [])
 

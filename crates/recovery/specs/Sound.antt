@@ -1,6 +1,6 @@
 -- What question 2 tells of a state: the record holds together.
 -- Assumes nothing.
-use Prim.Native.Nat.{ℕ, _+_, _/_, _≤_, _<_}
+use Prim.Native.Nat.{ℕ, _+_, _≤_, _<_}
 use lib.ListN.{length, getD}
 use mathlib.Core.Bool.{true}
 use mathlib.Core.List.{List, [], _∷_, _++_}
@@ -9,7 +9,7 @@ use mathlib.Core.Path.{_≡_}
 use Rattle.card.specs.Block.{blockAt}
 use Rattle.card.specs.Bytes.{All}
 use Rattle.card.specs.Range.{geometryFits}
-use Rattle.card.specs.Ring.{ringAt, ringOffset}
+use Rattle.card.specs.Ring.{ringAt, ringOffset, half}
 use Rattle.card.specs.declared.directory.Entry.{Entry}
 use Rattle.recovery.specs.Book.{WholeFrame}
 use Rattle.recovery.specs.Directory.{Note, frameOf}
@@ -68,7 +68,7 @@ pub record Sound (s : State) : Type 0 where
   -- the stretches adjoin, each at most H and together at most A
   pub pending-first : s .pending .first ≡ ringAt (s .area) (s .committed .first) (committedSize (s .committed))
   pub current-first : s .current .first ≡ ringAt (s .area) (s .committed .first) (committedSize (s .committed) + size (s .pending))
-  pub halves : (committedSize (s .committed) ≤ s .area / 2) × (size (s .pending) ≤ s .area / 2) × (size (s .current) ≤ s .area / 2)
+  pub halves : (committedSize (s .committed) ≤ half (s .area)) × (size (s .pending) ≤ half (s .area)) × (size (s .current) ≤ half (s .area))
   pub together : committedSize (s .committed) + size (s .pending) + size (s .current) ≤ s .area
   -- all that waits fits memory
   pub seated : length (s .pending .waiting) + length (s .current .waiting) ≤ s .memoryFrames

@@ -1,13 +1,13 @@
--- Questions 12 to 20 once more, as plain sums over the ledger: what demand 2 holds the questions to.
+-- Questions 12 to 14 and 20 once more, as plain sums over the ledger: each number has a sum behind it, and this is what demand 2 holds it to.
 -- Assumes nothing.
-use Prim.Native.Nat.{ℕ, _+_, _-_, _/_}
+use Prim.Native.Nat.{ℕ, _+_, _-_}
 use lib.Dec.{leb, ltb, eqb}
 use lib.ListN.{length, replicate}
 use mathlib.Core.Bool.{Bool, true, false, cond}
 use mathlib.Core.List.{List, [], _∷_, _++_}
 use mathlib.Core.Option.{Option, none, some}
 use Rattle.card.specs.Question.{Question, ask}
-use Rattle.card.specs.Ring.{dirBlocks, generationSize}
+use Rattle.card.specs.Ring.{half, dirBlocks, generationSize}
 use Rattle.recovery.specs.Contents.{FrameBytes}
 use Rattle.recovery.specs.Directory.{Note, turnOf}
 use Rattle.recovery.specs.State.{Generation, State, places, entryCount}
@@ -56,17 +56,9 @@ unfoldable pub roomSums : List FrameBytes → State → List Question
 roomSums ws s =
     let k = placesNeeded ws (s .current) in
     cond (eqb k 0) []
-    (ask 12 (leb (sizeAfter ws s) (s .area / 2))
+    (ask 12 (leb (sizeAfter ws s) (half (s .area)))
     ∷ ask 13 (leb (generationSize (s .committed .places) (length (s .committed .entries)) + generationSize (places (s .pending)) (entryCount (s .pending)) + sizeAfter ws s) (s .area))
     ∷ ask 14 (leb (length (s .pending .waiting) + length (s .current .waiting) + k) (s .memoryFrames)) ∷ [])
-
--- 16 to 18: none is pending, an entry is there, the commit number has a next
-unfoldable pub snapshotSums : State → List Question
-snapshotSums s = ask 16 (eqb (entryCount (s .pending)) 0) ∷ ask 17 (ltb 0 (entryCount (s .current))) ∷ ask 18 (ltb (s .commit) 4294967295) ∷ []
-
--- 19: a frame waits
-unfoldable pub pageOutSums : State → List Question
-pageOutSums s = ask 19 (ltb 0 (length (s .pending .waiting) + length (s .current .waiting))) ∷ []
 
 -- 20: a write remains
 unfoldable pub advanceSums : State → List Question
