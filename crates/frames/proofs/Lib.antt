@@ -14,5 +14,6 @@ pub mod KeepLaws
 pub mod EachLaws
 pub mod CallLaws
 pub mod DueLaws
+pub mod Run
 pub mod WorldLaws
 pub mod Recovery

@@ -13,7 +13,7 @@ use Rattle.card.specs.Question.{firstNo, headerRanges}
 use Rattle.card.specs.Range.{Range}
 use Rattle.frames.proofs.WorldLaws.{Standing, done-keeps, idle, live, standing-stored, standing-follows, LentOk, done-follows, done-common, called-ok, cut-ok}
 use Rattle.frames.specs.Promise.{Lent, meaningOf, common, FrameCall, start, change, snapshot, pageOut, advance, FrameAnswer, done, asks, doneAnswer, doneWrite, outcome, FrameKept, Loads}
-use Rattle.frames.specs.Run.{told, FrameWorld, startLent, lentTo, FrameStep, called, cutWithin, cutBetween, FrameRun, stays, goes, firstWorld, Serves, FramesRecover, FramesPresent, FramesHold}
+use Rattle.frames.proofs.Run.{told, FrameWorld, startLent, lentTo, FrameStep, called, cutWithin, cutBetween, FrameRun, stays, goes, firstWorld, Serves, FramesRecover, FramesPresent, FramesHold}
 use Rattle.record.specs.Meaning.{zeroStore}
 use Rattle.recovery.proofs.Follows.{Stored, Follows}
 use Rattle.recovery.proofs.FrameTheorem.{accepted-stored, stored-accepts, reads-present, follows-sound}

@@ -1,12 +1,12 @@
 -- What a call or a cut in it leaves, of what a world may hold: a card, and a record that follows the book of frames or that of zeros.
 -- Assumes nothing.
 use Prim.Native.Nat.{ℕ, zero, suc, _*_, _/_}
-use borrow.Author.Tests.{eq-eqb, ne-eqb}
+use borrow.Author.Tests.{eq-eqb}
 use lib.Dec.{ltb, eqb}
 use lib.ListN.{length}
 use mathlib.Core.Bool.{true, false, _&&_, false≢true}
 use mathlib.Core.List.{List, [], _++_}
-use mathlib.Core.Logic.{⊎-elim}
+use mathlib.Core.Logic.{_≢_, ⊎-elim}
 use mathlib.Core.Option.{Option, none, some}
 use mathlib.Core.Path.{_≡_, refl, ap, sym, _∙_, subst}
 use native.Mathlib.Omega.{arith}
@@ -17,9 +17,10 @@ use Rattle.card.specs.Block.{whole}
 use Rattle.card.specs.Bytes.{All}
 use Rattle.card.specs.Question.{Question, firstNo}
 use Rattle.card.specs.Range.{Range}
+use Rattle.frames.proofs.KeepLaws.{outcome-done, outcome-refused}
 use Rattle.frames.proofs.ReadyLaws.{whole-said, ready, common-both}
 use Rattle.frames.specs.Promise.{Lent, meaningOf, common, FrameCall, start, change, snapshot, pageOut, advance, FrameAnswer, refused, asks, advanceAnswer, advanceWrite, advanced, doneAnswer, doneWrite, after, outcome, handedBack, FrameKept}
-use Rattle.frames.specs.Run.{told, CutBook, Asked}
+use Rattle.frames.proofs.Run.{told, CutBook, Asked}
 use Rattle.record.specs.Holds.{holdsTogether}
 use Rattle.record.specs.Meaning.{zeroStore}
 use Rattle.record.specs.declared.store.Store.{Store}
@@ -32,17 +33,12 @@ use Rattle.recovery.specs.State.{State}
 use Rattle.recovery.specs.Step.{afterChange, afterSnapshot, Kind, page, directory, trailer, migration, header, afterKind, advanceDue, afterPageOut, startState}
 use Rattle.recovery.specs.Write.{BlockWrite, putDown, Left}
 
--- ---- what an outcome is, done or refused
+-- ---- a call that is done
 
-module _ (c : FrameCall) (l : Lent) where
-  outcome-done : firstNo (asks c l) ≡ 0 → (outcome c l .answer ≡ doneAnswer c l) × (outcome c l .write ≡ doneWrite c l)
-  outcome-done e = let t : eqb (firstNo (asks c l)) 0 ≡ true = eq-eqb _ _ e in (rw t, rw t)
-
-  pub done-keeps : (l′ : Lent) (a : FrameAnswer) → FrameKept c l a l′ → firstNo (asks c l) ≡ 0 → (a ≡ doneAnswer c l) × (l′ .card ≡ putDown (doneWrite c l) (l .card))
-  done-keeps l′ a p e = let d = outcome-done e in (p .answer-is ∙ d .0, p .card-is ∙ ap (λ (w : Option BlockWrite). putDown w (l .card)) (d .1))
-
-  outcome-refused : (k : ℕ) → firstNo (asks c l) ≡ suc k → (outcome c l .answer ≡ refused (suc k)) × (outcome c l .write ≡ none)
-  outcome-refused k e = let t : eqb (firstNo (asks c l)) 0 ≡ false = ne-eqb (firstNo (asks c l)) 0 (λ z. omega (arith, e, z)) in (rw t (ap refused e), rw t)
+pub done-keeps : (c : FrameCall) (l l′ : Lent) (a : FrameAnswer) → FrameKept c l a l′ → firstNo (asks c l) ≡ 0 → (a ≡ doneAnswer c l) × (l′ .card ≡ putDown (doneWrite c l) (l .card))
+done-keeps c l l′ a p e =
+    let d = outcome-done (firstNo (asks c l)) (doneAnswer c l) (refused (firstNo (asks c l))) (doneWrite c l) (after c l) e in
+    (p .answer-is ∙ d .0, p .card-is ∙ ap (λ (w : Option BlockWrite). putDown w (l .card)) (d .1))
 
 -- a refused call is no news to the book
 told-refused : (c : FrameCall) (n : ℕ) (b : FrameBook) → told c (refused n) b ≡ b
@@ -245,7 +241,8 @@ module _ (blocks area : ℕ) (ranges : List Range) where
           go : (n : ℕ) → firstNo (asks c l) ≡ n → Standing blocks area ranges l′ (told c a b)
           go zero e = live (done-follows asked l′ a p e) (done-common asked l′ a p e)
           go (suc k) e =
-              let a-is : a ≡ refused (suc k) = p .answer-is ∙ outcome-refused c l k e .0 in
+              let z : firstNo (asks c l) ≢ 0 = λ q. omega (arith, e, q) in
+              let a-is : a ≡ refused (suc k) = p .answer-is ∙ outcome-refused _ (doneAnswer c l) (refused (firstNo (asks c l))) (doneWrite c l) (after c l) z .0 ∙ ap refused e in
               rw (a-is, told-refused c (suc k) b, p .refusal-is (omega (arith, e))) (lent-back c o)
 
       pub cut-ok : (c′ : List ℕ) (b′ : FrameBook) → Left (outcome c l .write) (l .card) c′ → CutBook (outcome c l .write) c′ b b′ → Stored blocks area ranges c′ (b′ .kept)
@@ -253,10 +250,11 @@ module _ (blocks area : ℕ) (ranges : List Range) where
         where
           go : (n : ℕ) → firstNo (asks c l) ≡ n → Stored blocks area ranges c′ (b′ .kept)
           go zero e =
-              let w : outcome c l .write ≡ doneWrite c l = outcome-done c l e .1 in
+              let w : outcome c l .write ≡ doneWrite c l = outcome-done _ (doneAnswer c l) (refused (firstNo (asks c l))) _ (after c l) e .1 in
               lent-cut c o e c′ b′ (subst (λ (x : Option BlockWrite). Left x (l .card) c′) w left) (subst (λ (x : Option BlockWrite). CutBook x c′ b b′) w cut)
           go (suc k) e =
-              let w : outcome c l .write ≡ none = outcome-refused c l k e .1 in
+              let z : firstNo (asks c l) ≢ 0 = λ q. omega (arith, e, q) in
+              let w : outcome c l .write ≡ none = outcome-refused _ (doneAnswer c l) (refused (firstNo (asks c l))) (doneWrite c l) (after c l) z .1 in
               let same : c′ ≡ l .card = subst (λ (x : Option BlockWrite). Left x (l .card) c′) w left in
               let same-book : b′ ≡ b = subst (λ (x : Option BlockWrite). CutBook x c′ b b′) w cut in
               rw (same, same-book) (lent-stored c o)

@@ -1,4 +1,3 @@
--- The frame layer's promise, what its parts promise, and the claims over lists of calls and cuts.
+-- The frame layer's promise, and what its parts promise.
 pub mod Promise
 pub mod Parts
-pub mod Run

@@ -48,6 +48,10 @@ pub record Outcome (A : Type 0) : Type 0 where
   pub write : Option BlockWrite
   pub after : State
 
+-- by its number, 0 or that of the first "no"
+abbrev pub outcomeOf : {A : Type 0} → ℕ → A → A → Option BlockWrite → State → Outcome A
+outcomeOf n done refusal write after = record { number = n; answer = cond (eqb n 0) done refusal; write = cond (eqb n 0) write none; after = after }
+
 -- of a call that was lent l, answers a and leaves l′; refused, it leaves `back`
 pub record Keeps {A : Type 0} (o : Outcome A) (back l : Lent) (a : A) (l′ : Lent) : Type 0 where
   pub answer-is : a ≡ o .answer
@@ -111,12 +115,7 @@ after pageOut l = afterPageOut (meaningOf l)
 after advance l = advanced (advanceDue (meaningOf l)) (meaningOf l)
 
 abbrev pub outcome : FrameCall → Lent → Outcome FrameAnswer
-outcome c l = record {
-  number = firstNo (asks c l);
-  answer = cond (eqb (firstNo (asks c l)) 0) (doneAnswer c l) (refused (firstNo (asks c l)));
-  write = cond (eqb (firstNo (asks c l)) 0) (doneWrite c l) none;
-  after = after c l;
-}
+outcome c l = outcomeOf (firstNo (asks c l)) (doneAnswer c l) (refused (firstNo (asks c l))) (doneWrite c l) (after c l)
 
 -- what a refused call hands back: all as lent; start the record of zeros
 abbrev pub handedBack : FrameCall → Lent → Lent

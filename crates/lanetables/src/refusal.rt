@@ -1,0 +1,217 @@
+// A case for each number: what the call answers.
+use super::day;
+use card::number;
+use frames::answer::Advance;
+use pages::answer::Count;
+use record::store::Store;
+
+// 1
+pub fn memory_of_three() -> u32 {
+    let mut card = [0u8; 5632];
+    let memory = [0u8; 1536];
+    pages::format::format(&mut card, 8, &[100, 1]);
+    let d = pages::start::start(&card, &memory);
+    d.answer
+}
+
+// 2: more is migrated than was ever committed
+pub fn record_apart() -> u32 {
+    let mut card = [0u8; 5632];
+    let memory = [0u8; 2048];
+    let mut s = day::begin(&mut card, &memory);
+    s.migrated = 1;
+    let d = pages::snapshot::snapshot(s, &card, &memory);
+    d.answer
+}
+
+// 3
+pub fn card_of_ten() -> u32 {
+    let d = pages::start::start(&[0u8; 5120], &[0u8; 2048]);
+    d.answer
+}
+
+// 4
+pub fn no_layout() -> u32 {
+    let d = pages::start::start(&[0u8; 5632], &[0u8; 2048]);
+    d.answer
+}
+
+// 5
+pub fn small_area() -> u32 {
+    let mut card = [0u8; 5632];
+    pages::format::format(&mut card, 7, &[100, 2])
+}
+
+// What a start answers of a card.
+fn started(card: &[u8]) -> u32 {
+    let d = pages::start::start(card, &[0u8; 2048]);
+    d.answer
+}
+
+// 6
+pub fn trailer_without_commit() -> u32 {
+    let mut card = [0u8; 5632];
+    day::begin(&mut card, &[0u8; 2048]);
+    card[8] = 3;
+    started(&card)
+}
+
+// 7
+pub fn trailer_of_other_commit() -> u32 {
+    let mut card = [0u8; 5632];
+    let mut memory = [0u8; 2048];
+    day::run(&mut card, &mut memory, 5);
+    card[2544] = 2;
+    started(&card)
+}
+
+// 8
+pub fn directory_of_header() -> u32 {
+    let mut card = [0u8; 5632];
+    let mut memory = [0u8; 2048];
+    day::run(&mut card, &mut memory, 5);
+    card[1536] = 0;
+    started(&card)
+}
+
+fn number_of_count(c: Count) -> u32 {
+    match c {
+        Count::Present(_) => 0,
+        Count::Refused(n) => n,
+    }
+}
+
+// 9
+pub fn no_such_page() -> u32 {
+    let mut card = [0u8; 5632];
+    let memory = [0u8; 2048];
+    let s = day::begin(&mut card, &memory);
+    let d = pages::key::key(s, &card, &memory, 101);
+    let a = d.answer;
+    number_of_count(a)
+}
+
+// 10
+pub fn old_key() -> u32 {
+    let mut card = [0u8; 5632];
+    let memory = [0u8; 2048];
+    let s = day::begin(&mut card, &memory);
+    let mut page = [0u8; 512];
+    let d = pages::read::read(s, &card, &memory, 100, 1, &mut page);
+    d.answer
+}
+
+// 11
+pub fn past_the_end() -> u32 {
+    let mut card = [0u8; 5632];
+    let mut memory = [0u8; 2048];
+    let s = day::begin(&mut card, &memory);
+    let d = pages::write::write(s, &card, &mut memory, 100, 0, 511, &[7, 7]);
+    d.answer
+}
+
+// 13: committed 4, pending 3 and current 3 blocks are more than 8
+pub fn three_generations() -> u32 {
+    let mut card = [0u8; 5632];
+    let mut memory = [0u8; 2048];
+    let s = day::run(&mut card, &mut memory, 7);
+    let t = day::mark(s, &card, &mut memory);
+    let d = pages::write::write(t, &card, &mut memory, 100, 0, 0, &[8]);
+    d.answer
+}
+
+fn write_page(s: Store, card: &[u8], memory: &mut [u8], oid: u32) -> Store {
+    let d = pages::write::write(s, card, memory, oid, 0, 0, &[7]);
+    d.store
+}
+
+// A card of 23 blocks with an area of 16 and five pages, formatted and started.
+fn begin_five(card: &mut [u8], memory: &[u8]) -> Store {
+    pages::format::format(card, 16, &[100, 5]);
+    let d = pages::start::start(card, memory);
+    d.store
+}
+
+// 14: three pages and their pot wait in four frames
+pub fn memory_full() -> u32 {
+    let mut card = [0u8; 11776];
+    let mut memory = [0u8; 2048];
+    let s = begin_five(&mut card, &memory);
+    let t = write_page(s, &card, &mut memory, 100);
+    let u = write_page(t, &card, &mut memory, 101);
+    let v = write_page(u, &card, &mut memory, 102);
+    let d = pages::write::write(v, &card, &mut memory, 103, 0, 0, &[7]);
+    d.answer
+}
+
+// 15
+pub fn last_count() -> u32 {
+    let mut card = [0u8; 5632];
+    let mut memory = [0u8; 2048];
+    day::begin(&mut card, &memory);
+    number::put_u32(&mut card, 4608, 4294967295);
+    let d = pages::start::start(&card, &memory);
+    let e = pages::rescind::rescind(d.store, &card, &mut memory, 100, 4294967295);
+    e.answer
+}
+
+// 16
+pub fn one_pending() -> u32 {
+    let mut card = [0u8; 5632];
+    let mut memory = [0u8; 2048];
+    let s = day::run(&mut card, &mut memory, 0);
+    let d = pages::snapshot::snapshot(s, &card, &memory);
+    d.answer
+}
+
+// 17
+pub fn nothing_changed() -> u32 {
+    let mut card = [0u8; 5632];
+    let memory = [0u8; 2048];
+    let s = day::begin(&mut card, &memory);
+    let d = pages::snapshot::snapshot(s, &card, &memory);
+    d.answer
+}
+
+// 18: header and trailer say the last commit number
+pub fn last_commit() -> u32 {
+    let mut card = [0u8; 5632];
+    let mut memory = [0u8; 2048];
+    day::run(&mut card, &mut memory, 5);
+    number::put_u32(&mut card, 4, 4294967295);
+    number::put_u32(&mut card, 2544, 4294967295);
+    let d = pages::start::start(&card, &memory);
+    let w = pages::write::write(d.store, &card, &mut memory, 100, 0, 0, &[8]);
+    let e = pages::snapshot::snapshot(w.store, &card, &memory);
+    e.answer
+}
+
+// 19
+pub fn none_waits() -> u32 {
+    let mut card = [0u8; 5632];
+    let memory = [0u8; 2048];
+    let s = day::begin(&mut card, &memory);
+    let d = pages::page_out::page_out(s, &mut card, &memory);
+    d.answer
+}
+
+fn number_of_advance(a: Advance) -> u32 {
+    match a {
+        Advance::P(_) => 0,
+        Advance::D(_) => 0,
+        Advance::T(_) => 0,
+        Advance::M(_) => 0,
+        Advance::H(_) => 0,
+        Advance::Refused(n) => n,
+    }
+}
+
+// 20
+pub fn none_due() -> u32 {
+    let mut card = [0u8; 5632];
+    let memory = [0u8; 2048];
+    let s = day::begin(&mut card, &memory);
+    let d = pages::advance::advance(s, &mut card, &memory);
+    let a = d.answer;
+    number_of_advance(a)
+}

@@ -1,0 +1,160 @@
+-- What a call answers by its first "no", and its promise beside that of the frame call that it comes to.
+-- Assumes nothing.
+use Prim.Native.Nat.{ℕ, _+_, _-_}
+use borrow.Author.Tests.{eq-eqb}
+use lib.Dec.{leb, ltb, eqb}
+use lib.ListN.{length}
+use mathlib.Core.Bool.{Bool, true, false, cond}
+use mathlib.Core.List.{List, [], _∷_, _++_}
+use mathlib.Core.Logic.{_≢_}
+use mathlib.Core.Option.{Option, none}
+use mathlib.Core.Path.{_≡_, refl, ap, sym, _∙_, subst}
+use native.Mathlib.Omega.{arith}
+use Rattle.card.proofs.QuestionLaws.{none-asked, asked-no, passed-both}
+use Rattle.card.specs.Question.{Question, ask, firstNo}
+use Rattle.card.specs.declared.range.Address.{Address}
+use Rattle.card.specs.declared.range.Lookup.{Lookup}
+use Rattle.card.specs.declared.range.Lookup.the-variants.{Located, Outside}
+use Rattle.frames.proofs.KeepLaws.{outcome-done, outcome-refused, keeps-refused, keeps-done, back-card, back-memory}
+use Rattle.frames.proofs.ReadyLaws.{common-passed, common-both}
+use Rattle.frames.specs.Promise.{Lent, meaningOf, common, FrameAnswer, FrameKept}
+use Rattle.pages.specs.Promise.{Call, start, key, read, write, rescind, snapshot, pageOut, advance, Answer, answered, addressOf, atPlace, presentCount, writeChanges, rescindChanges, placed, asks, frameCall, doneAnswer, refusal, outcome, Kept}
+use Rattle.record.specs.Holds.{holdsTogether}
+use Rattle.recovery.specs.Contents.{FrameBytes}
+use Rattle.recovery.specs.Questions.{newPlaces, roomAsks, snapshotAsks, pageOutAsks, advanceAsks}
+use Rattle.recovery.specs.State.{State, places}
+use Rattle.recovery.specs.Step.{changeFrames, afterChange}
+use Rattle.recovery.specs.Write.{BlockWrite, putDown}
+use Rattle.frames.specs.Promise as frames
+
+-- ---- the questions that every call but start is asked first
+
+abbrev pub Later : Call → Type 0
+Later (start m) = ⊥
+Later (key o) = Unit {0}
+Later (read o n x) = Unit {0}
+Later (write o n at new) = Unit {0}
+Later (rescind o n) = Unit {0}
+Later snapshot = Unit {0}
+Later pageOut = Unit {0}
+Later advance = Unit {0}
+
+-- and what it is asked after them
+unfoldable pub ownAsks : Call → Lent → List Question
+ownAsks (start m) l = []
+ownAsks (key o) l = placed (addressOf l o) (λ p. [])
+ownAsks (read o n x) l = placed (addressOf l o) (λ p. ask 10 (eqb (presentCount l p) n) ∷ ask 11 (eqb (length x) 512) ∷ [])
+ownAsks (write o n at new) l = placed (addressOf l o) (λ p. ask 10 (eqb (presentCount l p) n) ∷ ask 11 (leb (at + length new) 512) ∷ roomAsks (writeChanges l at new p) (meaningOf l))
+ownAsks (rescind o n) l = placed (addressOf l o) (λ p. ask 10 (eqb (presentCount l p) n) ∷ ask 15 (ltb n 4294967295) ∷ roomAsks (rescindChanges l p) (meaningOf l))
+ownAsks snapshot l = snapshotAsks (meaningOf l)
+ownAsks pageOut l = pageOutAsks (meaningOf l)
+ownAsks advance l = advanceAsks (meaningOf l)
+
+pub asks-are : (c : Call) (l : Lent) → Later c → asks c l ≡ common l ++ ownAsks c l
+unfolding asks ownAsks
+asks-are (start m) l k = absurd k
+asks-are (key o) l k = refl
+asks-are (read o n x) l k = refl
+asks-are (write o n at new) l k = refl
+asks-are (rescind o n) l k = refl
+asks-are snapshot l k = refl
+asks-are pageOut l k = refl
+asks-are advance l k = refl
+
+pub asked-both : (c : Call) (l : Lent) → Later c → firstNo (asks c l) ≡ 0 → (firstNo (common l) ≡ 0) × (firstNo (ownAsks c l) ≡ 0)
+asked-both c l k e = common-both (l .store) (length (l .memory)) (length (l .card)) (ownAsks c l) (sym (ap firstNo (asks-are c l k)) ∙ e)
+
+pub asked-own : (c : Call) (l : Lent) → Later c → firstNo (common l) ≡ 0 → firstNo (asks c l) ≡ firstNo (ownAsks c l)
+asked-own c l k e = ap firstNo (asks-are c l k) ∙ common-passed (l .store) (length (l .memory)) (length (l .card)) (ownAsks c l) e
+
+-- 9 is passed: there is a place, and the rest is asked of it
+pub found-place : (a : Lookup) (rest : Address → List Question) → firstNo (placed a rest) ≡ 0 → (p : Address) × (a ≡ Located p) × (firstNo (rest p) ≡ 0)
+unfolding atPlace
+found-place Outside rest e = absurd (omega (arith, sym (asked-no 9 false [] refl), e))
+found-place (Located p) rest e = (p, refl, e)
+
+-- ---- the frame call that a call comes to
+
+pub change-none : (s : State) → (firstNo (roomAsks [] s) ≡ 0) × (afterChange [] s ≡ s)
+unfolding roomAsks newPlaces afterChange changeFrames
+change-none s = (let t : eqb (places (s .current) - places (s .current)) 0 ≡ true = eq-eqb (places (s .current) - places (s .current)) 0 (omega arith) in rw t none-asked, refl)
+
+module _ (l : Lent) where
+  -- a change passes where 1 to 3 and its own 12 to 14 do
+  change-asked : (ws : List FrameBytes) → firstNo (common l) ≡ 0 → firstNo (roomAsks ws (meaningOf l)) ≡ 0 → firstNo (frames.asks (frames.change ws) l) ≡ 0
+  unfolding frames.asks
+  change-asked ws h r = common-passed (l .store) (length (l .memory)) (length (l .card)) (roomAsks ws (meaningOf l)) h ∙ r
+
+  pub frames-asked : (c : Call) → firstNo (asks c l) ≡ 0 → firstNo (frames.asks (frameCall c l) l) ≡ 0
+  unfolding frameCall ownAsks atPlace
+  frames-asked (start m) e = unfold asks frames.asks in e
+  frames-asked (key o) e = change-asked [] (asked-both (key o) l tt e .0) (change-none (meaningOf l) .0)
+  frames-asked (read o n x) e = change-asked [] (asked-both (read o n x) l tt e .0) (change-none (meaningOf l) .0)
+  frames-asked (write o n at new) e =
+      let q = asked-both (write o n at new) l tt e in
+      let f = found-place (addressOf l o) _ (q .1) in
+      let r = passed-both 10 (leb (at + length new) 512) _ (passed-both 9 (eqb (presentCount l (f .0)) n) _ (f .2) .1) .1 in
+      rw (f .1) (change-asked (writeChanges l at new (f .0)) (q .0) r)
+  frames-asked (rescind o n) e =
+      let q = asked-both (rescind o n) l tt e in
+      let f = found-place (addressOf l o) _ (q .1) in
+      let r = passed-both 14 (ltb n 4294967295) _ (passed-both 9 (eqb (presentCount l (f .0)) n) _ (f .2) .1) .1 in
+      rw (f .1) (change-asked (rescindChanges l (f .0)) (q .0) r)
+  frames-asked snapshot e = unfold asks frames.asks in e
+  frames-asked pageOut e = unfold asks frames.asks in e
+  frames-asked advance e = unfold asks frames.asks in e
+
+-- ---- a promise that is kept: done, or refused
+
+module _ (c : Call) (l : Lent) where
+  pub block-done : firstNo (asks c l) ≡ 0 → outcome c l .write ≡ frames.doneWrite (frameCall c l) l
+  block-done e = outcome-done _ (doneAnswer c l) (refusal c (firstNo (asks c l))) _ (frames.after (frameCall c l) l) e .1
+
+  pub block-none : firstNo (asks c l) ≢ 0 → outcome c l .write ≡ none
+  block-none z = outcome-refused _ (doneAnswer c l) (refusal c (firstNo (asks c l))) (frames.doneWrite (frameCall c l) l) (frames.after (frameCall c l) l) z .1
+
+  module _ (l′ : Lent) (a : Answer) (k : Kept c l a l′) where
+    pub kept-done : firstNo (asks c l) ≡ 0 → (a ≡ doneAnswer c l) × (l′ .card ≡ putDown (frames.doneWrite (frameCall c l) l) (l .card))
+    kept-done e = (
+      k .answer-is ∙ outcome-done _ (doneAnswer c l) (refusal c (firstNo (asks c l))) (frames.doneWrite (frameCall c l) l) (frames.after (frameCall c l) l) e .0,
+      k .card-is ∙ ap (λ (w : Option BlockWrite). putDown w (l .card)) (block-done e),
+    )
+
+    pub kept-refused : firstNo (asks c l) ≢ 0 → (a ≡ refusal c (firstNo (asks c l))) × (l′ ≡ frames.handedBack (frameCall c l) l)
+    kept-refused z = (
+      k .answer-is ∙ outcome-refused _ (doneAnswer c l) (refusal c (firstNo (asks c l))) (frames.doneWrite (frameCall c l) l) (frames.after (frameCall c l) l) z .0,
+      k .refusal-is (omega (arith, z)),
+    )
+
+    -- done, it keeps the frame layer's promise of the call that it comes to
+    pub lowered : firstNo (asks c l) ≡ 0 → FrameKept (frameCall c l) l (frames.doneAnswer (frameCall c l) l) l′
+    lowered e = keeps-done _ (frames.doneAnswer (frameCall c l) l) _ (frames.doneWrite (frameCall c l) l) (frames.after (frameCall c l) l) (frames.handedBack (frameCall c l) l) l l′
+        (frames-asked l c e) (kept-done e .1) (k .meaning e) (k .sound-is e) (k .long)
+
+  -- ---- how it is kept
+
+  pub keeps-no : (n : ℕ) → firstNo (asks c l) ≡ n → n ≢ 0 → Kept c l (refusal c n) (frames.handedBack (frameCall c l) l)
+  keeps-no n e z = subst (λ (k : ℕ). Kept c l (refusal c k) (frames.handedBack (frameCall c l) l)) e
+      (keeps-refused (firstNo (asks c l)) (doneAnswer c l) _ _ _ _ l (λ q. z (sym e ∙ q)) (back-card (frameCall c l) l) (ap length (back-memory (frameCall c l) l)))
+
+  -- a call that changes no frame leaves what it was lent
+  pub keeps-same : firstNo (asks c l) ≡ 0 → frameCall c l ≡ frames.change [] → holdsTogether (l .store) ≡ true → Kept c l (doneAnswer c l) l
+  unfolding frames.doneWrite frames.after
+  keeps-same e f together = keeps-done (firstNo (asks c l)) (doneAnswer c l) _ _ _ _ l l e (rw f) (rw (f, change-none (meaningOf l) .1)) together refl
+
+  -- as the frame layer keeps the call that it comes to
+  pub lifted : (l′ : Lent) (a : FrameAnswer) → FrameKept (frameCall c l) l a l′ → firstNo (asks c l) ≡ firstNo (frames.asks (frameCall c l) l)
+      → doneAnswer c l ≡ answered (frames.doneAnswer (frameCall c l) l) → ((n : ℕ) → refusal c n ≡ answered (frames.refused n)) → Kept c l (answered a) l′
+  lifted l′ a k e same-done same-refusal = record {
+    answer-is = ap answered (k .answer-is) ∙ answer-same (eqb (firstNo (frames.asks (frameCall c l) l)) 0) ∙ rw (← e) refl;
+    card-is = rw e (k .card-is);
+    refusal-is = λ q. k .refusal-is (rw e at q);
+    meaning = λ q. k .meaning (sym e ∙ q);
+    sound-is = λ q. k .sound-is (sym e ∙ q);
+    long = k .long;
+  }
+    where
+      answer-same : (t : Bool) → answered (cond t (frames.doneAnswer (frameCall c l) l) (frames.refused (firstNo (frames.asks (frameCall c l) l))))
+          ≡ cond t (doneAnswer c l) (refusal c (firstNo (frames.asks (frameCall c l) l)))
+      answer-same true = sym same-done
+      answer-same false = sym (same-refusal _)

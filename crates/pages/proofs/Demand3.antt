@@ -1,0 +1,160 @@
+-- DEMAND 3: from a formatted card, after any list of calls and cuts, a start is done and writes nothing, and key and read show what the book keeps.
+-- Assumes nothing.
+use Prim.Native.Nat.{ℕ, zero, suc, _+_, _<_}
+use borrow.Author.Tests.{eq-eqb}
+use lib.ListN.{length}
+use mathlib.Core.Bool.{true}
+use mathlib.Core.List.{List, []}
+use mathlib.Core.Option.{none, some}
+use mathlib.Core.Path.{_≡_, refl, ap, sym, _∙_}
+use native.Mathlib.Omega.{arith}
+use Rattle.card.proofs.QuestionLaws.{none-asked, asked-yes}
+use Rattle.card.specs.Block.{blockAt, whole}
+use Rattle.card.specs.Bytes.{zeros}
+use Rattle.card.specs.Header.{headerOn}
+use Rattle.card.specs.Question.{firstNo, headerRanges}
+use Rattle.card.specs.Range.{locate}
+use Rattle.card.specs.declared.range.Address.{Address}
+use Rattle.card.specs.declared.range.Lookup.{Lookup}
+use Rattle.card.specs.declared.range.Lookup.the-variants.{Located}
+use Rattle.frames.proofs.KeepLaws as keep
+use Rattle.frames.proofs.Recovery.{frames-recover}
+use Rattle.frames.proofs.Run.{stays, firstWorld, startLent, Serves}
+use Rattle.frames.specs.Promise as frames
+use Rattle.frames.specs.Promise.{Lent, lent, common, meaningOf, FrameAnswer, FrameKept}
+use Rattle.pages.proofs.AnswerLaws.{ownAsks, asked-own, change-none, kept-done, lowered}
+use Rattle.pages.proofs.FormatLaws.{format-area, format-ranges, format-accepted, format-shows, format-done}
+use Rattle.pages.proofs.RunLaws.{has-frames, Beside, serves, address-is, page-shown, called-beside, run-beside}
+use Rattle.pages.specs.Book.{Book, Event, formatBook, isDone, told, bookAfter}
+use Rattle.pages.specs.Demand3.{World, Run, Shows, Demand3}
+use Rattle.pages.specs.Page.{Page, pageOf, formatCard}
+use Rattle.pages.specs.Promise.{start, key, read, Answer, done, counted, filled, addressOf, atPlace, presentFrames, asks, frameCall, doneAnswer, Kept, rangesIn, formatAsks, FormatKept}
+use Rattle.record.specs.Meaning.{zeroStore}
+use Rattle.recovery.proofs.FrameTheorem.{accepted-stored, stored-long}
+use Rattle.recovery.specs.Questions.{startAsks}
+use Rattle.recovery.specs.State.{State, readFrame}
+use Rattle.recovery.specs.Step.{startState}
+
+-- the place of an OID by a card's header
+abbrev placeOn : List ℕ → ℕ → Lookup
+placeOn card o = locate (headerRanges (headerOn (blockAt card 0))) (1 + headerOn (blockAt card 0) .area) o
+
+module _ (m₀ card₀ : List ℕ) (accepted : firstNo (startAsks m₀ card₀) ≡ 0) where
+  -- ---- what key and read answer where a record is held
+
+  module _ (w : World) (b : Book) (s : Beside m₀ card₀ accepted w b) (l : Lent) (held : w .held ≡ some l) (low : 0 < l .store .frames)
+      (o : ℕ) (p : Address) (at-p : placeOn card₀ o ≡ Located p) where
+    passes : firstNo (common l) ≡ 0
+    passes = serves m₀ card₀ accepted w b s l held low .passes
+
+    place-is : addressOf l o ≡ Located p
+    place-is = address-is m₀ card₀ accepted w b s l held low o ∙ at-p
+
+    page-is : pageOf (presentFrames l) p ≡ b .present o
+    page-is = page-shown m₀ card₀ accepted w b s l held low o p at-p
+
+    key-passes : firstNo (asks (key o) l) ≡ 0
+    unfolding ownAsks atPlace
+    key-passes = asked-own (key o) l tt passes ∙ rw place-is none-asked
+
+    key-shows : (a : Answer) (l′ : Lent) → Kept (key o) l a l′ → (a ≡ counted (b .present o .count)) × (0 < l′ .store .frames)
+    unfolding doneAnswer atPlace frameCall frames.after pageOf
+    key-shows a l′ k =
+        let frames-is : l′ .store .frames ≡ l .store .frames = ap (λ (x : State). x .memoryFrames) (k .meaning key-passes ∙ change-none (meaningOf l) .1) in
+        (kept-done (key o) l l′ a k key-passes .0 ∙ rw place-is (ap (λ (x : Page). counted (x .count)) page-is), omega (arith, frames-is, low))
+
+    read-passes : (buffer : List ℕ) → length buffer ≡ 512 → firstNo (asks (read o (b .present o .count) buffer) l) ≡ 0
+    unfolding ownAsks atPlace pageOf
+    read-passes buffer long = asked-own (read o (b .present o .count) buffer) l tt passes
+        ∙ rw place-is (asked-yes 10 _ _ (eq-eqb _ _ (ap (λ (x : Page). x .count) page-is)) ∙ asked-yes 11 _ [] (eq-eqb _ _ long) ∙ none-asked)
+
+    read-shows : (buffer : List ℕ) → length buffer ≡ 512 → (a : Answer) (l′ : Lent) → Kept (read o (b .present o .count) buffer) l a l′ → a ≡ filled 0 (b .present o .bytes)
+    unfolding doneAnswer atPlace pageOf
+    read-shows buffer long a l′ k =
+        kept-done (read o (b .present o .count) buffer) l l′ a k (read-passes buffer long) .0 ∙ rw place-is (ap (λ (x : Page). filled 0 (x .bytes)) page-is)
+
+  -- ---- a start
+
+  module _ (w : World) (b : Book) (s : Beside m₀ card₀ accepted w b) (m : List ℕ) (memory : whole 4 64 (length m) ≡ true) where
+    recovers : (a : FrameAnswer) (l : Lent) → FrameKept (frames.start m) (startLent m (w .card)) a l → (a ≡ frames.done) × (l .card ≡ w .card) × Serves card₀ l
+    recovers a l k = let q = frames-recover m₀ card₀ accepted (s .frames) (s .run) m memory a l (rw (s .card-is) k) in (q .0, q .1 ∙ s .card-is, q .2)
+
+    -- a refused start would keep the frame layer's promise too, and the frame theorem says of every start that keeps it that it is done
+    start-passes : firstNo (asks (start m) (lent zeroStore m (w .card))) ≡ 0
+    unfolding asks frames.asks
+    start-passes = go (firstNo (startAsks m (w .card))) refl
+      where
+        go : (n : ℕ) → firstNo (startAsks m (w .card)) ≡ n → firstNo (startAsks m (w .card)) ≡ 0
+        go zero e = e
+        go (suc n) e =
+            let d : frames.refused (suc n) ≡ frames.done = recovers _ _ (keep.kept-refused (frames.start m) (startLent m (w .card)) (suc n) e (λ q. omega (arith, q))) .0 in
+            let z : _≡_ {A = ℕ} 0 1 = cc in
+            absurd (omega arith)
+
+    module _ (a : Answer) (l : Lent) (k : Kept (start m) (lent zeroStore m (w .card)) a l) where
+      start-done : a ≡ done
+      unfolding doneAnswer
+      start-done = kept-done (start m) (lent zeroStore m (w .card)) l a k start-passes .0
+
+      started : (l .card ≡ w .card) × Serves card₀ l
+      unfolding frameCall frames.doneAnswer
+      started = let q = recovers _ l (lowered (start m) (lent zeroStore m (w .card)) l a k start-passes) in (q .1, q .2)
+
+      -- the world after it, and its book: what is kept is present
+      after-start : Beside m₀ card₀ accepted (record { card = l .card; held = some l }) (record { present = b .kept; marked = none; kept = b .kept })
+      unfolding told isDone
+      after-start = rw start-done at (called-beside m₀ card₀ accepted w b s (start m) a _ l refl k)
+
+      start-shows : (o : ℕ) (p : Address) → placeOn card₀ o ≡ Located p → Shows l o (b .kept o)
+      unfolding told
+      start-shows o p at-p x y l₁ l₂ buffer long kx ky =
+          let q = key-shows _ _ after-start l refl (has-frames l (started .1 .passes)) o p at-p x l₁ kx in
+          let after-key = called-beside m₀ card₀ accepted _ _ after-start (key o) x l l₁ refl kx in
+          (q .0, read-shows _ _ after-key l₁ refl (q .1) o p at-p buffer long y l₂ ky)
+
+-- ---- a formatted card
+
+module _ (area : ℕ) (numbers before card : List ℕ) (k : FormatKept area numbers before done card) where
+  format-passes : firstNo (formatAsks area numbers before) ≡ 0
+  format-passes = format-done area numbers before card k .0
+
+  card-is : card ≡ formatCard area (rangesIn numbers) before
+  card-is = format-done area numbers before card k .1
+
+  -- its header tells the geometry that was asked for
+  place-same : (o : ℕ) → placeOn card o ≡ locate (rangesIn numbers) (1 + area) o
+  place-same o = rw (card-is, format-ranges area numbers before format-passes, format-area area numbers before format-passes)
+
+  module _ (m : List ℕ) (memory : whole 4 64 (length m) ≡ true) where
+    formatted : firstNo (startAsks m card) ≡ 0
+    formatted = rw card-is (format-accepted area numbers before format-passes m memory)
+
+    first-pages : (o : ℕ) (p : Address) → placeOn card o ≡ Located p → pageOf (readFrame (startState m card) card) p ≡ record { bytes = zeros; count = 0 }
+    first-pages o p e = rw card-is (format-shows area numbers before format-passes o p (sym (place-same o) ∙ e) m)
+
+    first-beside : Beside m card formatted (record { card = card; held = none }) formatBook
+    first-beside =
+        let long = stored-long _ _ _ card _ (accepted-stored m card formatted) in
+        record {
+          frames = firstWorld m card;
+          run = stays _;
+          card-is = refl;
+          held-is = refl;
+          same = record { long-present = long; long-marked = long; long-kept = long; present-is = first-pages; marked-is = first-pages; kept-is = first-pages };
+        }
+
+    reached : (es : List Event) (w : World) → Run es (record { card = card; held = none }) w → Beside m card formatted w (bookAfter es formatBook)
+    reached es w run = run-beside m card formatted es _ w formatBook run first-beside
+
+pub demand-3 : Demand3
+demand-3 area numbers before card k es w run m memory a l p =
+    let s = reached area numbers before card k m memory es w run in (
+      start-done m card _ w _ s m memory a l p,
+      started m card _ w _ s m memory a l p .0,
+      (λ o q e. start-shows m card _ w _ s m memory a l p o q (place-same area numbers before card k o ∙ e)),
+    )
+
+-- start accepts every card that a finished format and later calls wrote, cut off or not
+pub start-accepts : (area : ℕ) (numbers before card : List ℕ) → FormatKept area numbers before done card → (es : List Event) (w : World) → Run es (record { card = card; held = none }) w
+    → (m : List ℕ) → whole 4 64 (length m) ≡ true → (a : Answer) (l : Lent) → Kept (start m) (lent zeroStore m (w .card)) a l → a ≡ done
+start-accepts area numbers before card k es w run m memory a l p = demand-3 area numbers before card k es w run m memory a l p .0

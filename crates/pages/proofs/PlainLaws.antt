@@ -1,0 +1,268 @@
+-- The plain machine beside what is lent to a call: it is asked the same, and of a call that is done it has the answer, the block and the tables.
+-- Assumes nothing.
+use Prim.Native.Nat.{ℕ, _+_, _≤_, _<_}
+use borrow.Author.Tests.{leb-true, ltb-true, eqb-true}
+use lib.Dec.{leb, ltb, eqb}
+use lib.ListN.{length}
+use mathlib.Core.Bool.{Bool, true, false, cond, false≢true}
+use mathlib.Core.List.{List, [], _∷_}
+use mathlib.Core.Logic.{_≢_}
+use mathlib.Core.Option.{Option, none, some}
+use mathlib.Core.Path.{_≡_, refl, ap, sym, _∙_}
+use native.Mathlib.Omega.{arith}
+use Rattle.card.proofs.AddressLaws.{Within, PlacesApart}
+use Rattle.card.proofs.QuestionLaws.{passed-both}
+use Rattle.card.specs.Bytes.{All}
+use Rattle.card.specs.Pot.{countAt}
+use Rattle.card.specs.Question.{Question, firstNo}
+use Rattle.card.specs.Range.{Range, locate, allBlocks}
+use Rattle.card.specs.declared.range.Address.{Address}
+use Rattle.card.specs.declared.range.Lookup.{Lookup}
+use Rattle.card.specs.declared.range.Lookup.the-variants.{Located, Outside}
+use Rattle.frames.proofs.Run.{told, Asked}
+use Rattle.frames.specs.Promise as frames
+use Rattle.frames.specs.Promise.{Lent, meaningOf, common, FrameCall}
+use Rattle.pages.proofs.AnswerLaws.{Later, ownAsks, found-place}
+use Rattle.pages.proofs.BlankLaws.{blankFrames, blank-snapshotAsks, blank-pageOutAsks, blank-change, blank-snapshot, blank-pageOut, blank-kind}
+use Rattle.pages.proofs.LedgerLaws.{write-touches, rescind-touches, touches-apart, due-is, room-is, advance-is, kind-is, out-is}
+use Rattle.pages.proofs.Represents.{Shows, Long, changes-long, in-p, updated, write-whole, rescind-whole, write-same, rescind-same}
+use Rattle.pages.proofs.RowLaws.{write-row, write-other, rescind-row, rescind-other}
+use Rattle.pages.specs.Book.{written, rescinded}
+use Rattle.pages.specs.Page.{Page, flagged, pageBytes, pageOf, writeFrames, rescindFrames}
+use Rattle.pages.specs.Plain.{Row, rowOf, Plain, blank, plainAddress, touched, writeTouches, rescindTouches, plainAsks, plainKind, Does, answers, setRow, plainWrite, plainRescind, plainAdvance, plainDone}
+use Rattle.pages.specs.Promise.{Call, start, key, read, write, rescind, snapshot, pageOut, advance, Answer, done, counted, filled, wrote, answered, addressOf, atPlace, presentFrames, presentCount, writeChanges, rescindChanges, placed, frameCall, doneAnswer}
+use Rattle.recovery.proofs.Follows.{Follows}
+use Rattle.recovery.proofs.FrameTheorem.{reads-present}
+use Rattle.recovery.specs.Book.{FrameBook, applyChanges, bookChange, bookWrote, WholeFrame}
+use Rattle.recovery.specs.Contents.{Contents, FrameBytes}
+use Rattle.recovery.specs.Questions.{roomAsks, given, advanceAsks}
+use Rattle.recovery.specs.Step.{changeFrames, afterChange, Kind, page, directory, trailer, migration, header, kindWrite, advanceDue}
+use Rattle.recovery.specs.Sums.{roomSums}
+use Rattle.recovery.specs.Write.{BlockWrite}
+
+placed-same : (a : Lookup) (f h : Address → List Question) → ((p : Address) → a ≡ Located p → f p ≡ h p) → placed a f ≡ placed a h
+unfolding atPlace
+placed-same Outside f h e = refl
+placed-same (Located p) f h e = e p refl
+
+-- advance changes nothing that is present
+wrote-present : (k : Kind) (b : FrameBook) → bookWrote k b .present ≡ b .present
+wrote-present page b = refl
+wrote-present directory b = refl
+wrote-present trailer b = refl
+wrote-present migration b = refl
+wrote-present header b = refl
+
+module _ (rs : List Range) (blocks area : ℕ) (full : blocks ≡ 1 + area + allBlocks rs) where
+  -- the frames show each OID's page, with its flag, as the rows have it
+  abbrev SameRows : Contents → (ℕ → Row) → Type 0
+  SameRows v rows = Shows rs blocks area full rowOf v rows
+
+  -- the machine's tables are those of what is lent, which passes questions 1 to 3
+  pub record InStep (l : Lent) (t : Plain) : Type 0 where
+    pub passes : firstNo (common l) ≡ 0
+    pub follows : Follows blocks area rs (meaningOf l) (l .card) (t .frames)
+    pub ledger-is : t .ledger ≡ blank (meaningOf l)
+    pub rows-are : SameRows (t .frames .present) (t .rows)
+    pub long : Long rs blocks area full (t .frames .present)
+
+  module _ (l : Lent) (t : Plain) (b : InStep l t) where
+    -- A call that is done, as the frame layer's call that it comes to and its answer, and what the machine does: answer and block are the same, and so are the tables
+    -- that they leave.
+    pub record Agrees (c : FrameCall) (a : Answer) (d : Does) : Type 0 where
+      pub asked : Asked c l
+      pub answer-is : a ≡ d .answer
+      pub write-is : frames.doneWrite c l ≡ d .write
+      pub frames-are : told c (frames.doneAnswer c l) (t .frames) ≡ d .next .frames
+      pub ledger-is : d .next .ledger ≡ blank (frames.after c l)
+      pub rows-are : SameRows (d .next .frames .present) (d .next .rows)
+      pub long : Long rs blocks area full (d .next .frames .present)
+
+    unchanged : (a a′ : Answer) → a ≡ a′ → Agrees (frames.change []) a (answers a′ t)
+    unfolding frames.doneWrite frames.doneAnswer frames.after told applyChanges afterChange changeFrames
+    unchanged a a′ e = record { asked = tt; answer-is = e; write-is = refl; frames-are = refl; ledger-is = b .ledger-is; rows-are = b .rows-are; long = b .long }
+
+    -- frames of one page change, and its row
+    changed : (ws touches : List FrameBytes) (o : ℕ) (x : Row) → blankFrames ws ≡ touches → All (WholeFrame area blocks) ws → SameRows (applyChanges ws (t .frames .present)) (setRow o x (t .rows))
+        → Agrees (frames.change ws) done (answers done (record { rows = setRow o x (t .rows); ledger = afterChange touches (t .ledger); frames = bookChange ws (t .frames) }))
+    unfolding frames.doneWrite frames.doneAnswer frames.after told
+    changed ws touches o x e whole rows = record {
+      asked = rw (b .follows .area-is, b .follows .blocks-is) whole;
+      answer-is = refl;
+      write-is = refl;
+      frames-are = refl;
+      ledger-is = rw (b .ledger-is, ← e) (blank-change (meaningOf l) ws);
+      rows-are = rows;
+      long = changes-long rs blocks area full ws (t .frames .present) whole (b .long);
+    }
+
+    -- ---- a page that a call names
+
+    address-is : (o : ℕ) → addressOf l o ≡ locate rs (1 + area) o
+    address-is o = rw (b .follows .ranges-is, b .follows .area-is)
+
+    plain-address : (o : ℕ) → plainAddress t o ≡ locate rs (1 + area) o
+    unfolding blank
+    plain-address o = rw (b .ledger-is, b .follows .ranges-is, b .follows .area-is)
+
+    module _ (o : ℕ) (p : Address) (e : locate rs (1 + area) o ≡ Located p) where
+      abbrev present : Contents
+      present = t .frames .present
+
+      inside : Within (1 + area) blocks p
+      inside = in-p rs blocks area full o p e
+
+      pot-is : presentFrames l (p .pot) ≡ present (p .pot)
+      pot-is = reads-present blocks area rs (meaningOf l) (l .card) (t .frames) (b .follows) (p .pot) (omega (arith, inside)) (omega (arith, inside))
+
+      page-is : presentFrames l (p .page) ≡ present (p .page)
+      page-is = reads-present blocks area rs (meaningOf l) (l .card) (t .frames) (b .follows) (p .page) (omega (arith, inside)) (omega (arith, inside))
+
+      row-page : pageOf present p ≡ t .rows o .page
+      unfolding rowOf
+      row-page = ap (λ (x : Row). x .page) (b .rows-are o p e)
+
+      row-zero : flagged present p ≡ t .rows o .zero
+      unfolding rowOf
+      row-zero = ap (λ (x : Row). x .zero) (b .rows-are o p e)
+
+      bytes-same : pageBytes (presentFrames l) p ≡ t .rows o .page .bytes
+      unfolding pageOf pageBytes
+      bytes-same = rw (pot-is, page-is) (ap (λ (x : Page). x .bytes) row-page)
+
+      count-same : presentCount l p ≡ t .rows o .page .count
+      unfolding pageOf
+      count-same = rw pot-is (ap (λ (x : Page). x .count) row-page)
+
+      -- ---- the frames that it changes, and the room for them
+
+      write-frames : (at : ℕ) (new : List ℕ) → writeFrames (presentFrames l) p at new ≡ writeFrames present p at new
+      write-frames at new = write-same (presentFrames l) present p at new pot-is page-is
+
+      rescind-frames : rescindChanges l p ≡ rescindFrames present p
+      unfolding rescindChanges
+      rescind-frames = rescind-same (presentFrames l) present p pot-is
+
+      row-touches : (at : ℕ) (new : List ℕ) (empty : Bool)
+          → blankFrames (cond empty [] (writeFrames present p at new)) ≡ cond empty [] (touched (p .page) ∷ cond (t .rows o .zero) (touched (p .pot) ∷ []) [])
+      row-touches at new empty = rw (← row-zero) (write-touches present p at new empty)
+
+      write-room : (at : ℕ) (new : List ℕ) → roomAsks (writeChanges l at new p) (meaningOf l) ≡ roomSums (writeTouches (t .rows o) new p) (t .ledger)
+      unfolding writeChanges writeTouches
+      write-room at new = rw (write-frames at new) (room-is (meaningOf l) t (b .ledger-is) _ _ (row-touches at new (eqb (length new) 0)) (touches-apart (t .rows o) new p (omega (arith, inside))))
+
+      rescind-room : roomAsks (rescindChanges l p) (meaningOf l) ≡ roomSums (rescindTouches p) (t .ledger)
+      rescind-room = rw rescind-frames (room-is (meaningOf l) t (b .ledger-is) _ _ (rescind-touches present p) (tt, tt))
+
+      -- ---- a write and a rescind of it
+
+      rows-changed : (v : Contents) (x : Row) → rowOf v p ≡ x → ((q : Address) → PlacesApart p q → rowOf v q ≡ rowOf present q) → SameRows v (setRow o x (t .rows))
+      unfolding setRow
+      rows-changed v x own others = updated rs blocks area full o p e rowOf present v (t .rows) x (b .rows-are) own others
+
+      two : p .page ≢ p .pot
+      two = omega (arith, inside)
+
+      pot-long : length (present (p .pot)) ≡ 512
+      pot-long = b .long (p .pot) (omega (arith, inside)) (omega (arith, inside))
+
+      page-long : length (present (p .page)) ≡ 512
+      page-long = b .long (p .page) (omega (arith, inside)) (omega (arith, inside))
+
+      write-agrees : (at : ℕ) (new : List ℕ) → at + length new ≤ 512 → Agrees (frames.change (writeChanges l at new p)) done (answers done (plainWrite o at new t p))
+      unfolding writeChanges plainWrite writeTouches
+      write-agrees at new short = rw (write-frames at new) (go (eqb (length new) 0))
+        where
+          own : rowOf (applyChanges (writeFrames present p at new) present) p ≡ record { page = written at new (t .rows o .page); zero = false }
+          own = write-row present p two pot-long (inside .entry-high) at new ∙ ap (λ (x : Page). record { page = written at new x; zero = false }) row-page
+
+          go : (empty : Bool) → Agrees (frames.change (cond empty [] (writeFrames present p at new))) done (answers done (cond empty t (record {
+            rows = setRow o (record { page = written at new (t .rows o .page); zero = false }) (t .rows);
+            ledger = afterChange (cond empty [] (touched (p .page) ∷ cond (t .rows o .zero) (touched (p .pot) ∷ []) [])) (t .ledger);
+            frames = bookChange (writeFrames present p at new) (t .frames);
+          })))
+          go true = unchanged done done refl
+          go false = changed (writeFrames present p at new) _ o _ (row-touches at new false) (write-whole area blocks present p inside pot-long page-long at new short)
+              (rows-changed _ _ own (write-other present p two pot-long (inside .entry-high) at new))
+
+      rescind-agrees : t .rows o .page .count < 4294967295 → Agrees (frames.change (rescindChanges l p)) done (answers done (plainRescind o t p))
+      unfolding plainRescind
+      rescind-agrees limit = rw rescind-frames
+          (changed (rescindFrames present p) (rescindTouches p) o _ (rescind-touches present p) (rescind-whole area blocks present p inside pot-long)
+          (rows-changed _ _ own (rescind-other present p two pot-long (inside .entry-high))))
+        where
+          few : countAt (present (p .pot)) (p .entry) < 4294967295
+          few = unfold pageOf in (omega (arith, ap (λ (x : Page). x .count) row-page))
+
+          own : rowOf (applyChanges (rescindFrames present p) present) p ≡ record { page = rescinded (t .rows o .page); zero = true }
+          own = rescind-row present p two pot-long (inside .entry-high) few ∙ ap (λ (x : Page). record { page = rescinded x; zero = true }) row-page
+
+    advance-agrees : (due : Option Kind) → advanceDue (meaningOf l) ≡ due → given due ≡ true → Agrees frames.advance (answered (frames.advanceAnswer due l)) (plainAdvance due t)
+    unfolding frames.doneWrite frames.doneAnswer frames.advanceWrite frames.advanceAnswer frames.after frames.advanced told answered plainAdvance
+    advance-agrees none e h = absurd (false≢true h)
+    advance-agrees (some k) e h =
+        let block-is : kindWrite k (meaningOf l) (l .card) ≡ plainKind k t = kind-is (meaningOf l) t (b .ledger-is) blocks area rs (l .card) (b .follows) k e in
+        record {
+          asked = tt;
+          answer-is = ap (λ (w : BlockWrite). wrote k (w .block)) block-is;
+          write-is = rw e (ap (λ (w : BlockWrite). some w) block-is);
+          frames-are = rw e;
+          ledger-is = rw (e, b .ledger-is) (blank-kind (meaningOf l) k);
+          rows-are = rw (wrote-present k (t .frames)) (b .rows-are);
+          long = rw (wrote-present k (t .frames)) (b .long);
+        }
+
+    -- ---- any call but start
+
+    pub same-asks : (c : Call) → Later c → ownAsks c l ≡ plainAsks c t
+    unfolding ownAsks plainAsks
+    same-asks (start m) k = absurd k
+    same-asks (key o) k = rw (address-is o, plain-address o)
+    same-asks (read o n x) k = rw (address-is o, plain-address o) (placed-same (locate rs (1 + area) o) _ _ (λ p e. rw (count-same o p e)))
+    same-asks (write o n at new) k = rw (address-is o, plain-address o) (placed-same (locate rs (1 + area) o) _ _ (λ p e. rw (count-same o p e, write-room o p e at new)))
+    same-asks (rescind o n) k = rw (address-is o, plain-address o) (placed-same (locate rs (1 + area) o) _ _ (λ p e. rw (count-same o p e, rescind-room o p e)))
+    same-asks snapshot k = rw (b .ledger-is) (sym (blank-snapshotAsks (meaningOf l)))
+    same-asks pageOut k = rw (b .ledger-is) (sym (blank-pageOutAsks (meaningOf l)))
+    same-asks advance k = advance-is (meaningOf l) t (b .ledger-is)
+
+    pub agrees : (c : Call) → Later c → firstNo (ownAsks c l) ≡ 0 → Agrees (frameCall c l) (doneAnswer c l) (plainDone c t)
+    unfolding ownAsks frameCall doneAnswer plainDone atPlace
+    agrees (start m) k own = absurd k
+    agrees (key o) k own =
+        let q = found-place (addressOf l o) _ own in
+        unchanged _ _ (rw (q .1) (ap counted (count-same o (q .0) (sym (address-is o) ∙ q .1))))
+    agrees (read o n x) k own =
+        let q = found-place (addressOf l o) _ own in
+        unchanged _ _ (rw (q .1) (ap (filled 0) (bytes-same o (q .0) (sym (address-is o) ∙ q .1))))
+    agrees (write o n at new) k own =
+        let q = found-place (addressOf l o) _ own in
+        let e : locate rs (1 + area) o ≡ Located (q .0) = sym (address-is o) ∙ q .1 in
+        let counts = passed-both 9 (eqb (presentCount l (q .0)) n) _ (q .2) in
+        rw (address-is o, plain-address o, e) (write-agrees o (q .0) e at new (leb-true _ _ (passed-both 10 (leb (at + length new) 512) _ (counts .1) .0)))
+    agrees (rescind o n) k own =
+        let q = found-place (addressOf l o) _ own in
+        let e : locate rs (1 + area) o ≡ Located (q .0) = sym (address-is o) ∙ q .1 in
+        let counts = passed-both 9 (eqb (presentCount l (q .0)) n) _ (q .2) in
+        let limit = passed-both 14 (ltb n 4294967295) _ (counts .1) in
+        rw (address-is o, plain-address o, e)
+        (rescind-agrees o (q .0) e (omega (arith, count-same o (q .0) e, eqb-true (presentCount l (q .0)) n (counts .0), ltb-true n 4294967295 (limit .0))))
+    agrees snapshot k own = record {
+      asked = tt;
+      answer-is = refl;
+      write-is = unfold frames.doneWrite in refl;
+      frames-are = unfold frames.doneAnswer told in refl;
+      ledger-is = unfold frames.after in (rw (b .ledger-is) (blank-snapshot (meaningOf l)));
+      rows-are = b .rows-are;
+      long = b .long;
+    }
+    agrees pageOut k own = record {
+      asked = tt;
+      answer-is = refl;
+      write-is = unfold frames.doneWrite in (ap (λ (w : BlockWrite). some w) (out-is (meaningOf l) t (b .ledger-is) blocks area rs (l .card) (b .follows) own));
+      frames-are = unfold told in refl;
+      ledger-is = unfold frames.after in (rw (b .ledger-is) (blank-pageOut (meaningOf l)));
+      rows-are = b .rows-are;
+      long = b .long;
+    }
+    agrees advance k own = rw (due-is (meaningOf l) t (b .ledger-is))
+        (unfold frames.doneAnswer in (advance-agrees (advanceDue (meaningOf l)) refl (unfold advanceAsks in (passed-both 19 (given (advanceDue (meaningOf l))) [] own .0))))

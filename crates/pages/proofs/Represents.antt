@@ -1,0 +1,156 @@
+-- The book of frames and the book of pages tell the same, and each call keeps that.
+-- Assumes nothing.
+use Prim.Native.Nat.{ℕ, _+_, _≤_, _<_}
+use borrow.Author.Tests.{eqb-true, eq-eqb, ne-eqb}
+use lib.Dec.{eqb}
+use lib.ListN.{length}
+use mathlib.Core.Bool.{cond}
+use mathlib.Core.List.{List, [], _∷_}
+use mathlib.Core.Logic.{_≢_}
+use mathlib.Core.Option.{none, some, Option·getD}
+use mathlib.Core.Path.{_≡_, ap, refl, sym, _∙_}
+use native.Mathlib.Decide.{ℕ-discrete}
+use native.Mathlib.Omega.{arith}
+use Rattle.card.proofs.AddressLaws.{PlacesApart, places-apart, Within, lies}
+use Rattle.card.proofs.BytesLaws.{none-long, patch-length, patch-none, zeros-length}
+use Rattle.card.proofs.PotLaws.{putCount-length, putFlags-length}
+use Rattle.card.proofs.Test.{byTest}
+use Rattle.card.specs.Bytes.{All}
+use Rattle.card.specs.Pot.{countAt}
+use Rattle.card.specs.Range.{Range, allBlocks, locate}
+use Rattle.card.specs.declared.range.Address.{Address}
+use Rattle.card.specs.declared.range.Lookup.the-variants.{Located}
+use Rattle.pages.proofs.RowLaws.{write-row, write-other, rescind-row, rescind-other}
+use Rattle.pages.specs.Book.{Table, Book, update, presentTo, written, rescinded, headerReached}
+use Rattle.pages.specs.Page.{Page, flagged, pageBytes, pageOf, writeFrames, rescindPot, rescindFrames}
+use Rattle.pages.specs.Plain.{Row, rowOf}
+use Rattle.recovery.specs.Book.{FrameBook, markedOr, applyChanges, bookChange, bookSnapshot, bookStart, bookHeader, WholeFrame}
+use Rattle.recovery.specs.Contents.{Contents, FrameBytes, overlay}
+
+-- ---- the frames of a call are whole home frames
+
+module _ (area blocks : ℕ) (v : Contents) (p : Address) (inside : Within (1 + area) blocks p) (long-pot : length (v (p .pot)) ≡ 512) where
+  pub write-whole : length (v (p .page)) ≡ 512 → (at : ℕ) (new : List ℕ) → at + length new ≤ 512 → All (WholeFrame area blocks) (writeFrames v p at new)
+  unfolding writeFrames
+  write-whole long-page at new h = (
+    (patch-length (pageBytes v p) at new (omega (arith, bytes-long)) ∙ bytes-long, omega (arith, inside), omega (arith, inside)),
+    byTest (All (WholeFrame area blocks)) (flagged v p) (λ e. ((putFlags-length (v (p .pot)) (p .entry) long-pot (inside .entry-high) _, omega (arith, inside), omega (arith, inside)), tt)) (λ e. tt),
+  )
+    where
+      bytes-long : length (pageBytes v p) ≡ 512
+      bytes-long = unfold pageBytes in (byTest (λ (l : List ℕ). length l ≡ 512) (flagged v p) (λ e. zeros-length) (λ e. long-page))
+
+  pub rescind-whole : All (WholeFrame area blocks) (rescindFrames v p)
+  unfolding rescindFrames rescindPot
+  rescind-whole = (
+    (putFlags-length _ (p .entry) (putCount-length (v (p .pot)) (p .entry) long-pot (inside .entry-high) _) (inside .entry-high) _, omega (arith, inside), omega (arith, inside)),
+    tt,
+  )
+
+-- a call's frames are told by the two frames of its page
+pub write-same : (u v : Contents) (p : Address) (at : ℕ) (new : List ℕ) → u (p .pot) ≡ v (p .pot) → u (p .page) ≡ v (p .page) → writeFrames u p at new ≡ writeFrames v p at new
+unfolding writeFrames pageBytes
+write-same u v p at new e f = rw (e, f)
+
+pub rescind-same : (u v : Contents) (p : Address) → u (p .pot) ≡ v (p .pot) → rescindFrames u p ≡ rescindFrames v p
+unfolding rescindFrames
+rescind-same u v p e = rw e
+
+-- ---- the two books
+
+module _ (rs : List Range) (blocks area : ℕ) (full : blocks ≡ 1 + area + allBlocks rs) where
+  -- what the frames show of each OID's page is as the table has it
+  abbrev pub Shows : {A : Type 0} → (Contents → Address → A) → Contents → (ℕ → A) → Type 0
+  Shows of v t = (oid : ℕ) (p : Address) → locate rs (1 + area) oid ≡ Located p → of v p ≡ t oid
+
+  abbrev pub SamePages : Contents → Table → Type 0
+  SamePages v t = Shows pageOf v t
+
+  -- every home frame has a block of bytes
+  abbrev pub Long : Contents → Type 0
+  Long v = (f : ℕ) → area < f → f < blocks → length (v f) ≡ 512
+
+  pub record Represents (b : FrameBook) (pb : Book) : Type 0 where
+    pub long-present : Long (b .present)
+    pub long-marked : Long (markedOr b)
+    pub long-kept : Long (b .kept)
+    pub present-is : SamePages (b .present) (pb .present)
+    pub marked-is : SamePages (markedOr b) (Option·getD (pb .marked) (pb .kept))
+    pub kept-is : SamePages (b .kept) (pb .kept)
+
+  pub represents-start : (b : FrameBook) (pb : Book) → Represents b pb → Represents (bookStart b) (record { present = pb .kept; marked = none; kept = pb .kept })
+  represents-start b pb h = record { long-present = h .long-kept; long-marked = h .long-kept; long-kept = h .long-kept; present-is = h .kept-is; marked-is = h .kept-is; kept-is = h .kept-is }
+
+  pub represents-snapshot : (b : FrameBook) (pb : Book) → Represents b pb → Represents (bookSnapshot b) (record { present = pb .present; marked = some (pb .present); kept = pb .kept })
+  represents-snapshot b pb h = record { long-present = h .long-present; long-marked = h .long-present; long-kept = h .long-kept; present-is = h .present-is; marked-is = h .present-is; kept-is = h .kept-is }
+
+  pub represents-header : (b : FrameBook) (pb : Book) → Represents b pb → Represents (bookHeader b) (headerReached pb)
+  represents-header b pb h = record { long-present = h .long-present; long-marked = h .long-marked; long-kept = h .long-marked; present-is = h .present-is; marked-is = h .marked-is; kept-is = h .marked-is }
+
+  -- what is present changes, the rest stays
+  represents-present : (b : FrameBook) (pb : Book) (v : Contents) (t : Table) → Represents b pb → Long v → SamePages v t → Represents (record { present = v; marked = b .marked; kept = b .kept }) (presentTo t pb)
+  represents-present b pb v t h l s = record { long-present = l; long-marked = h .long-marked; long-kept = h .long-kept; present-is = s; marked-is = h .marked-is; kept-is = h .kept-is }
+
+  -- a write of length 0 is no news
+  pub write-nothing : (b : FrameBook) (pb : Book) → Represents b pb → (o at : ℕ) (new : List ℕ) → length new ≡ 0
+      → Represents b (presentTo (update o (written at new (pb .present o)) (pb .present)) pb)
+  write-nothing b pb h o at new e = represents-present b pb (b .present) _ h (h .long-present) (λ u q k. h .present-is u q k ∙ sym (same u))
+    where
+      page-same : written at new (pb .present o) ≡ pb .present o
+      page-same = rw (none-long new e) (λ i. record { bytes = patch-none (pb .present o .bytes) at i; count = pb .present o .count })
+
+      same : (u : ℕ) → update o (written at new (pb .present o)) (pb .present) u ≡ pb .present u
+      same u = unfold update in (byTest (λ (x : Page). x ≡ pb .present u) (eqb u o) (λ k. page-same ∙ ap (pb .present) (sym (eqb-true u o k))) (λ k. refl))
+
+  -- ---- a change of one page
+
+  pub changes-long : (ws : List FrameBytes) (v : Contents) → All (WholeFrame area blocks) ws → Long v → Long (applyChanges ws v)
+  unfolding applyChanges overlay
+  changes-long [] v a l = l
+  changes-long (w ∷ ws) v a l = changes-long ws (overlay (w ∷ []) v) (a .1)
+      (λ f m h. byTest (λ (x : List ℕ). length x ≡ 512) (eqb f (w .frame)) (λ e. a .0 .0) (λ e. l f m h))
+
+  module _ (oid : ℕ) (p : Address) (at-p : locate rs (1 + area) oid ≡ Located p) where
+    pub in-p : Within (1 + area) blocks p
+    in-p = rw full (lies rs (1 + area) oid p at-p)
+
+    -- contents that change at oid as the table does
+    pub updated : {A : Type 0} (of : Contents → Address → A) (v v′ : Contents) (t : ℕ → A) (x : A) → Shows of v t → of v′ p ≡ x → ((q : Address) → PlacesApart p q → of v′ q ≡ of v q)
+        → Shows of v′ (λ o. cond (eqb o oid) x (t o))
+    updated of v v′ t x h own others o q e = go (ℕ-discrete o oid)
+      where
+        go : Dec (o ≡ oid) → of v′ q ≡ cond (eqb o oid) x (t o)
+        go (yes d) =
+            let q-is : q ≡ p = cc in
+            rw (eq-eqb o oid d, q-is) own
+        go (no d) = rw (ne-eqb o oid d) (others q (places-apart rs (1 + area) oid o p q (λ k. d (sym k)) at-p e) ∙ h o q e)
+
+    module _ (b : FrameBook) (pb : Book) (h : Represents b pb) where
+      pub pot-long : length (b .present (p .pot)) ≡ 512
+      pot-long = h .long-present (p .pot) (omega (arith, in-p)) (omega (arith, in-p))
+
+      pub page-long : length (b .present (p .page)) ≡ 512
+      page-long = h .long-present (p .page) (omega (arith, in-p)) (omega (arith, in-p))
+
+      pub count-is : countAt (b .present (p .pot)) (p .entry) ≡ pb .present oid .count
+      unfolding pageOf
+      count-is = ap (λ (x : Page). x .count) (h .present-is oid p at-p)
+
+      two : p .page ≢ p .pot
+      two = omega (arith, in-p)
+
+      pub write-represents : (at : ℕ) (new : List ℕ) → All (WholeFrame area blocks) (writeFrames (b .present) p at new)
+          → Represents (bookChange (writeFrames (b .present) p at new) b) (presentTo (update oid (written at new (pb .present oid)) (pb .present)) pb)
+      unfolding rowOf update
+      write-represents at new a = represents-present b pb _ _ h (changes-long _ (b .present) a (h .long-present))
+          (updated pageOf (b .present) _ (pb .present) _ (h .present-is)
+          (ap (λ (r : Row). r .page) (write-row (b .present) p two pot-long (in-p .entry-high) at new) ∙ ap (written at new) (h .present-is oid p at-p))
+          (λ q d. ap (λ (r : Row). r .page) (write-other (b .present) p two pot-long (in-p .entry-high) at new q d)))
+
+      pub rescind-represents : pb .present oid .count < 4294967295 → All (WholeFrame area blocks) (rescindFrames (b .present) p)
+          → Represents (bookChange (rescindFrames (b .present) p) b) (presentTo (update oid (rescinded (pb .present oid)) (pb .present)) pb)
+      unfolding rowOf update
+      rescind-represents l a = represents-present b pb _ _ h (changes-long _ (b .present) a (h .long-present))
+          (updated pageOf (b .present) _ (pb .present) _ (h .present-is)
+          (ap (λ (r : Row). r .page) (rescind-row (b .present) p two pot-long (in-p .entry-high) (omega (arith, count-is))) ∙ ap rescinded (h .present-is oid p at-p))
+          (λ q d. ap (λ (r : Row). r .page) (rescind-other (b .present) p two pot-long (in-p .entry-high) q d)))

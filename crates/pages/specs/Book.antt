@@ -1,0 +1,82 @@
+-- The book (document 01, 'The book'): ONE function from what is told of an event to the next book.
+-- Assumes nothing.
+use Prim.Native.Nat.{ℕ, suc}
+use lib.Dec.{eqb}
+use mathlib.Core.Bool.{Bool, true, false, cond}
+use mathlib.Core.List.{List, [], _∷_}
+use mathlib.Core.Option.{Option, none, some, Option·getD}
+use Rattle.card.specs.Bytes.{patch, zeros}
+use Rattle.pages.specs.Page.{Page}
+use Rattle.pages.specs.Promise.{Call, start, key, read, write, rescind, snapshot, pageOut, advance, Answer, refused, done, counted, filled, wrote}
+use Rattle.recovery.specs.Step.{Kind, page, directory, trailer, migration, header}
+
+-- a page for each OID; those of the ranges matter
+abbrev pub Table : Type 0
+Table = ℕ → Page
+
+pub record Book : Type 0 where
+  pub present : Table
+  pub marked : Option Table
+  pub kept : Table
+
+-- an event as the book is fed it: a call with its answer; a cut in a call, with whether the header write being made, if any, reached the card; a cut between calls
+pub data Event : Type 0 where
+  called : Call → Answer → Event
+  cutIn : Call → (reached : Bool) → Event
+  cut : Event
+
+-- format: present and kept all zeros, marked empty
+abbrev pub formatBook : Book
+formatBook = record { present = λ o. record { bytes = zeros; count = 0 }; marked = none; kept = λ o. record { bytes = zeros; count = 0 } }
+
+unfoldable pub update : ℕ → Page → Table → Table
+update oid x t o = cond (eqb o oid) x (t o)
+
+abbrev pub presentTo : Table → Book → Book
+presentTo t b = record { present = t; marked = b .marked; kept = b .kept }
+
+-- a page after a write and after a rescind
+abbrev pub written : ℕ → List ℕ → Page → Page
+written at new x = record { bytes = patch (x .bytes) at new; count = x .count }
+
+abbrev pub rescinded : Page → Page
+rescinded x = record { bytes = zeros; count = suc (x .count) }
+
+-- a header write reached the card: kept becomes marked, if it isn't empty
+abbrev pub headerReached : Book → Book
+headerReached b = record { present = b .present; marked = none; kept = Option·getD (b .marked) (b .kept) }
+
+-- is a call done; is a header reported
+unfoldable pub isDone : Answer → Bool
+isDone (refused n) = false
+isDone done = true
+isDone (counted n) = true
+isDone (filled n x) = eqb n 0
+isDone (wrote k n) = true
+
+unfoldable pub isHeader : Answer → Bool
+isHeader (refused n) = false
+isHeader done = false
+isHeader (counted n) = false
+isHeader (filled n x) = false
+isHeader (wrote page n) = false
+isHeader (wrote directory n) = false
+isHeader (wrote trailer n) = false
+isHeader (wrote migration n) = false
+isHeader (wrote header n) = true
+
+unfoldable pub told : Event → Book → Book
+told (called (start m) a) b = cond (isDone a) (record { present = b .kept; marked = none; kept = b .kept }) b
+told (called (key o) a) b = b
+told (called (read o n x) a) b = b
+told (called (write o n at new) a) b = cond (isDone a) (presentTo (update o (written at new (b .present o)) (b .present)) b) b
+told (called (rescind o n) a) b = cond (isDone a) (presentTo (update o (rescinded (b .present o)) (b .present)) b) b
+told (called snapshot a) b = cond (isDone a) (record { present = b .present; marked = some (b .present); kept = b .kept }) b
+told (called pageOut a) b = b
+told (called advance a) b = cond (isHeader a) (headerReached b) b
+told (cutIn c reached) b = cond reached (headerReached b) b
+told cut b = b
+
+unfoldable pub bookAfter : List Event → Book → Book
+bookAfter [] b = b
+bookAfter (e ∷ es) b = bookAfter es (told e b)

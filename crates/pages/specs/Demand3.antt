@@ -1,0 +1,70 @@
+-- DEMAND 3, the statement.
+--
+-- Take any card, with any bytes, on which format reports done. Let any list of events follow: the eight calls with any arguments, done or refused by their own
+-- promises; a start with any memory, first, after a cut or at any time; a cut between two calls; a cut in a call, which leaves the block that the call writes old,
+-- new or, unless it is block 0, with any bytes. Any number of each, in any order.
+--
+-- Then a start that is lent any 4 to 64 whole frames is done and writes nothing, and for every OID of the ranges key gives the count that the book keeps, and
+-- read with that key the bytes that it keeps: those of the last snapshot whose header write reached the card, or of format.
+-- Assumes nothing.
+use Prim.Native.Nat.{ℕ, _+_}
+use lib.ListN.{length}
+use mathlib.Core.Bool.{Bool, true, false}
+use mathlib.Core.List.{List, [], _∷_}
+use mathlib.Core.Logic.{_⊎_}
+use mathlib.Core.Option.{Option, none, some}
+use mathlib.Core.Path.{_≡_}
+use Rattle.card.specs.Block.{whole}
+use Rattle.card.specs.Range.{locate}
+use Rattle.card.specs.declared.range.Address.{Address}
+use Rattle.card.specs.declared.range.Lookup.the-variants.{Located}
+use Rattle.frames.specs.Promise.{Lent, lent}
+use Rattle.pages.specs.Book.{Event, called, cutIn, cut, formatBook, bookAfter}
+use Rattle.pages.specs.Page.{Page}
+use Rattle.pages.specs.Promise.{Call, start, key, read, write, rescind, snapshot, pageOut, advance, Answer, done, counted, filled, outcome, Kept, rangesIn, FormatKept}
+use Rattle.record.specs.Meaning.{zeroStore}
+use Rattle.recovery.specs.Write.{BlockWrite, Left, Reached}
+
+-- the card, and what is held between calls: nothing before the first start and after a cut
+pub record World : Type 0 where
+  pub card : List ℕ
+  pub held : Option Lent
+
+-- start takes no earlier record; every other call is lent what is held
+abbrev pub lentTo : Call → World → Option Lent
+lentTo (start m) w = some (lent zeroStore m (w .card))
+lentTo (key o) w = w .held
+lentTo (read o n x) w = w .held
+lentTo (write o n at new) w = w .held
+lentTo (rescind o n) w = w .held
+lentTo snapshot w = w .held
+lentTo pageOut w = w .held
+lentTo advance w = w .held
+
+-- whether the header write being made, if any, reached the card
+abbrev pub ReachedIs : Option BlockWrite → List ℕ → Bool → Type 0
+ReachedIs none card reached = reached ≡ false
+ReachedIs (some w) card reached = (Reached w card × (reached ≡ true)) ⊎ ((Reached w card → ⊥) × (reached ≡ false))
+
+pub data Step : Event → World → World → Type 0 where
+  calls : (c : Call) (a : Answer) (w : World) (l l′ : Lent) → lentTo c w ≡ some l → Kept c l a l′ → Step (called c a) w (record { card = l′ .card; held = some l′ })
+  cutsIn : (c : Call) (reached : Bool) (w : World) (l : Lent) (card : List ℕ) → lentTo c w ≡ some l → Left (outcome c l .write) (w .card) card
+      → ReachedIs (outcome c l .write) card reached → Step (cutIn c reached) w (record { card = card; held = none })
+  cuts : (w : World) → Step cut w (record { card = w .card; held = none })
+
+pub data Run : List Event → World → World → Type 0 where
+  ended : (w : World) → Run [] w w
+  then : (e : Event) (es : List Event) (u v w : World) → Step e u v → Run es v w → Run (e ∷ es) u w
+
+-- key gives the page's count, and read with that key its bytes
+abbrev pub Shows : Lent → ℕ → Page → Type 0
+Shows l oid p = (a b : Answer) (l₁ l₂ : Lent) (buffer : List ℕ) → length buffer ≡ 512 → Kept (key oid) l a l₁ → Kept (read oid (p .count) buffer) l₁ b l₂
+    → (a ≡ counted (p .count)) × (b ≡ filled 0 (p .bytes))
+
+abbrev pub Demand3 : Type 0
+Demand3 = (area : ℕ) (numbers before card : List ℕ) → FormatKept area numbers before done card
+    → (es : List Event) (w : World) → Run es (record { card = card; held = none }) w
+    → (m : List ℕ) → whole 4 64 (length m) ≡ true
+    → (a : Answer) (l : Lent) → Kept (start m) (lent zeroStore m (w .card)) a l
+    → (a ≡ done) × (l .card ≡ w .card)
+    × ((oid : ℕ) (p : Address) → locate (rangesIn numbers) (1 + area) oid ≡ Located p → Shows l oid (bookAfter es formatBook .kept oid))

@@ -1,0 +1,154 @@
+-- The promise of the nine calls: what each is to do with what it is lent, refusals included (document 01, 'The calls' and 'Questions asked').
+-- Assumes nothing.
+use Prim.Native.Nat.{ℕ, _+_, _/_, _%_}
+use lib.Dec.{leb, ltb, eqb}
+use lib.ListN.{length}
+use mathlib.Core.Bool.{false, cond, _&&_}
+use mathlib.Core.List.{List, [], _∷_, _++_}
+use mathlib.Core.Path.{_≡_}
+use Rattle.card.specs.Block.{whole}
+use Rattle.card.specs.Pot.{countAt}
+use Rattle.card.specs.Question.{Question, ask, firstNo}
+use Rattle.card.specs.Range.{Range, rangesOf, geometryFits, locate}
+use Rattle.card.specs.declared.range.Address.{Address}
+use Rattle.card.specs.declared.range.Lookup.{Lookup}
+use Rattle.card.specs.declared.range.Lookup.the-variants.{Located, Outside}
+use Rattle.frames.specs.Promise as frames
+use Rattle.frames.specs.Promise.{Lent, meaningOf, common, Outcome, outcomeOf, Keeps, FrameCall, FrameAnswer, numbered}
+use Rattle.pages.specs.Page.{pageBytes, writeFrames, rescindFrames, formatCard}
+use Rattle.pages.specs.declared.answer.Count.{Count}
+use Rattle.pages.specs.declared.answer.Count.the-variants.{Present, Refused}
+use Rattle.pages.specs.declared.named.Named.{Named}
+use Rattle.recovery.specs.Contents.{Contents, FrameBytes}
+use Rattle.recovery.specs.Questions.{startAsks, roomAsks, snapshotAsks, pageOutAsks, advanceAsks}
+use Rattle.recovery.specs.State.{readFrame}
+use Rattle.recovery.specs.Step.{Kind}
+
+pub data Call : Type 0 where
+  start : (memory : List ℕ) → Call
+  key : (oid : ℕ) → Call
+  read : (oid count : ℕ) (buffer : List ℕ) → Call
+  write : (oid count at : ℕ) (new : List ℕ) → Call
+  rescind : (oid count : ℕ) → Call
+  snapshot pageOut advance : Call
+
+-- `filled`: read's number, 0 where it is done, and its buffer after the call, refused or not
+pub data Answer : Type 0 where
+  refused : (number : ℕ) → Answer
+  done : Answer
+  counted : (count : ℕ) → Answer
+  filled : (number : ℕ) (buffer : List ℕ) → Answer
+  wrote : Kind → (block : ℕ) → Answer
+
+-- what the code answers: as the frame layer does, or a count
+unfoldable pub answered : FrameAnswer → Answer
+answered (frames.refused n) = refused n
+answered frames.done = done
+answered (frames.wrote k n) = wrote k n
+
+unfoldable pub countedAs : Count → Answer
+countedAs (Present n) = counted n
+countedAs (Refused n) = refused n
+
+-- ---- pages
+
+-- the place of an OID by the record's ranges, and what is made of it
+abbrev pub addressOf : Lent → ℕ → Lookup
+addressOf l oid = locate (meaningOf l .ranges) (1 + meaningOf l .area) oid
+
+unfoldable pub atPlace : {A : Type 0} → A → Lookup → (Address → A) → A
+atPlace other Outside f = other
+atPlace other (Located p) f = f p
+
+-- what a load of each frame shows
+abbrev pub presentFrames : Lent → Contents
+presentFrames l = readFrame (meaningOf l) (l .card)
+
+abbrev pub presentCount : Lent → Address → ℕ
+presentCount l p = countAt (presentFrames l (p .pot)) (p .entry)
+
+-- the frames that a call changes
+unfoldable pub writeChanges : Lent → ℕ → List ℕ → Address → List FrameBytes
+writeChanges l at new p = cond (eqb (length new) 0) [] (writeFrames (presentFrames l) p at new)
+
+unfoldable pub rescindChanges : Lent → Address → List FrameBytes
+rescindChanges l p = rescindFrames (presentFrames l) p
+
+-- ---- questions
+
+-- 9, then the rest
+abbrev pub placed : Lookup → (Address → List Question) → List Question
+placed a rest = atPlace (ask 9 false ∷ []) a rest
+
+unfoldable pub asks : Call → Lent → List Question
+asks (start m) l = startAsks m (l .card)
+asks (key o) l = common l ++ placed (addressOf l o) (λ p. [])
+asks (read o n x) l = common l ++ placed (addressOf l o) (λ p. ask 10 (eqb (presentCount l p) n) ∷ ask 11 (eqb (length x) 512) ∷ [])
+asks (write o n at new) l = common l ++ placed (addressOf l o) (λ p. ask 10 (eqb (presentCount l p) n) ∷ ask 11 (leb (at + length new) 512) ∷ roomAsks (writeChanges l at new p) (meaningOf l))
+asks (rescind o n) l = common l ++ placed (addressOf l o) (λ p. ask 10 (eqb (presentCount l p) n) ∷ ask 15 (ltb n 4294967295) ∷ roomAsks (rescindChanges l p) (meaningOf l))
+asks snapshot l = common l ++ snapshotAsks (meaningOf l)
+asks pageOut l = common l ++ pageOutAsks (meaningOf l)
+asks advance l = common l ++ advanceAsks (meaningOf l)
+
+-- ---- what a call does
+
+-- the frame layer's call that it comes to; key, read and a write of length 0 change no frame
+unfoldable pub frameCall : Call → Lent → FrameCall
+frameCall (start m) l = frames.start m
+frameCall (key o) l = frames.change []
+frameCall (read o n x) l = frames.change []
+frameCall (write o n at new) l = frames.change (atPlace [] (addressOf l o) (writeChanges l at new))
+frameCall (rescind o n) l = frames.change (atPlace [] (addressOf l o) (rescindChanges l))
+frameCall snapshot l = frames.snapshot
+frameCall pageOut l = frames.pageOut
+frameCall advance l = frames.advance
+
+unfoldable pub doneAnswer : Call → Lent → Answer
+doneAnswer (start m) l = done
+doneAnswer (key o) l = atPlace (refused 9) (addressOf l o) (λ p. counted (presentCount l p))
+doneAnswer (read o n x) l = atPlace (filled 9 x) (addressOf l o) (λ p. filled 0 (pageBytes (presentFrames l) p))
+doneAnswer (write o n at new) l = done
+doneAnswer (rescind o n) l = done
+doneAnswer snapshot l = done
+doneAnswer pageOut l = done
+doneAnswer advance l = answered (frames.doneAnswer frames.advance l)
+
+unfoldable pub refusal : Call → ℕ → Answer
+refusal (start m) k = refused k
+refusal (key o) k = refused k
+refusal (read o n x) k = filled k x
+refusal (write o n at new) k = refused k
+refusal (rescind o n) k = refused k
+refusal snapshot k = refused k
+refusal pageOut k = refused k
+refusal advance k = refused k
+
+-- only page-out and advance write a block
+abbrev pub outcome : Call → Lent → Outcome Answer
+outcome c l = outcomeOf (firstNo (asks c l)) (doneAnswer c l) (refusal c (firstNo (asks c l))) (frames.doneWrite (frameCall c l) l) (frames.after (frameCall c l) l)
+
+-- THE PROMISE of the eight calls on a record: of a call c that was lent l, answers a and leaves l′. Refused, it leaves all as lent, start the record of zeros.
+abbrev pub Kept : Call → Lent → Answer → Lent → Type 0
+Kept c l a l′ = Keeps (outcome c l) (frames.handedBack (frameCall c l) l) l a l′
+
+-- ---- format, which takes no record
+
+-- its ranges come as numbers, first OID and n of each in turn; a number left over is no range
+abbrev pub rangesIn : List ℕ → List Range
+rangesIn numbers = rangesOf numbers (length numbers / 2)
+
+unfoldable pub formatAsks : ℕ → List ℕ → List ℕ → List Question
+formatAsks area numbers c = ask 3 (whole 11 65536 (length c)) ∷ ask 5 (eqb (length numbers % 2) 0 && geometryFits (length c / 512) area (rangesIn numbers)) ∷ []
+
+-- THE PROMISE of format: done, or refused and the card as it was
+pub record FormatKept (area : ℕ) (numbers before : List ℕ) (a : Answer) (card : List ℕ) : Type 0 where
+  pub answer-is : a ≡ answered (numbered (firstNo (formatAsks area numbers before)))
+  pub card-is : card ≡ cond (eqb (firstNo (formatAsks area numbers before)) 0) (formatCard area (rangesIn numbers) before) before
+
+-- ---- what the parts of the calls promise
+
+-- a page that a call names: the number of questions 1 to 3, 9 and those that follow it, and, where that is 0, its place and its pot
+pub record Names (l : Lent) (oid : ℕ) (rest : Address → List Question) (r : Named) : Type 0 where
+  pub refusal-is : r .refusal ≡ firstNo (common l ++ placed (addressOf l oid) rest)
+  pub place-is : r .refusal ≡ 0 → addressOf l oid ≡ Located (r .address)
+  pub pot-is : r .refusal ≡ 0 → r .pot ≡ presentFrames l (r .address .pot)
