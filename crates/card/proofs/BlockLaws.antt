@@ -1,12 +1,12 @@
 -- What a block write changes, and what it leaves.
 -- Assumes nothing.
 use Prim.Native.Nat.{ℕ, _+_, _-_, _*_, _≤_}
-use lib.ListN.{length, take, drop, length-take, length-drop}
+use lib.ListN.{length, take, drop}
 use mathlib.Core.List.{List, _++_}
 use mathlib.Core.Logic.{_≢_, ⊎-elim}
 use mathlib.Core.Path.{_≡_}
 use native.Mathlib.Omega.{arith}
-use Rattle.card.proofs.BytesLaws.{lent-part, shared-part, copied, part-length, patch-length, part-patch-same, part-patch-before, part-patch-after, patch-old}
+use Rattle.card.proofs.BytesLaws.{shared-part, lent-patch, part-length, patch-length, part-patch-same, part-patch-before, part-patch-after, patch-old}
 use Rattle.card.proofs.Test.{apart}
 use Rattle.card.specs.Block.{blockAt, putBlock}
 
@@ -47,7 +47,4 @@ pub lent-put : (c : List ℕ) (n : ℕ) (b y : List ℕ) → length b ≡ 512 �
     → y ≡ take (length b) b ++ drop (length b) (take (512 * n + 512 - 512 * n) (drop (512 * n) c))
     → take (512 * n) c ++ (y ++ drop (512 * n + 512 - 512 * n) (drop (512 * n) c)) ≡ putBlock c n b
 unfolding putBlock
-lent-put c n b y long fits e =
-    let w : length b ≡ length (take (512 * n + 512 - 512 * n) (drop (512 * n) c)) = simp (length-take, length-drop) (omega arith) in
-    let same : y ≡ b = copied b _ y w e in
-    rw same (lent-part c b (512 * n) (512 * n + 512) (omega arith) (omega arith))
+lent-put c n b y long fits e = lent-patch c b y (512 * n) (512 * n + 512) (omega arith) fits (omega arith) e

@@ -47,6 +47,12 @@ copied v d r e h =
     let none : drop (length v) d ≡ [] = drop-of-length-le d {i = length v} (omega arith) in
     h ∙ rw (none, append-nil) (take-length v)
 
+-- a part lent as `&mut s[a..e]`, into which v was copied
+pub lent-patch : (s v y : List ℕ) (a e : ℕ) → a ≤ e → e ≤ length s → length v ≡ e - a → y ≡ take (length v) v ++ drop (length v) (take (e - a) (drop a s)) → putMid a (e - a) s y ≡ patch s a v
+lent-patch s v y a e h fits l is =
+    let w : length v ≡ length (take (e - a) (drop a s)) = simp (length-take, length-drop) (omega arith) in
+    rw (copied v _ y w is) (lent-part s v a e h l)
+
 -- ---- part and patch
 
 -- a part of a list that ends within its front

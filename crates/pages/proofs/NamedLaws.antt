@@ -1,10 +1,9 @@
 -- A page that a call names: where it lies, the frames that are changed for it, and how the questions after 9 follow.
 -- Assumes nothing.
-use Prim.Native.Nat.{ℕ, _+_, _-_, _*_, _≤_, _<_}
+use Prim.Native.Nat.{ℕ, _+_, _*_, _≤_, _<_}
 use borrow.Author.Tests.{ltb-true, lt-ltb, le-leb, ne-eqb}
-use borrow.Rule.Slice.PartMut.{putMid}
 use lib.Dec.{leb, ltb}
-use lib.ListN.{length, take, drop, length-append, length-take, length-drop}
+use lib.ListN.{length, take, drop, length-append}
 use lib.Seq.{take-all, take-at, drop-at}
 use mathlib.Core.Bool.{true, false, _&&_}
 use mathlib.Core.List.{List, [], _∷_, _++_, append-nil}
@@ -13,12 +12,12 @@ use mathlib.Core.Path.{_≡_, refl, ap, sym, _∙_}
 use native.Mathlib.Decide.{ℕ-discrete}
 use native.Mathlib.Omega.{arith}
 use Rattle.card.proofs.AddressLaws.{Within, lies-home}
-use Rattle.card.proofs.BytesLaws.{lent-part, copied, patch-on, patch-last, tab-length}
+use Rattle.card.proofs.BytesLaws.{patch-on, patch-last, tab-length}
 use Rattle.card.proofs.QuestionLaws.{asked-no, group-yes, group-no}
 use Rattle.card.proofs.RangeLaws.{geometry-tells}
 use Rattle.card.proofs.Test.{both, joined}
 use Rattle.card.specs.Block.{blockAt, putBlock}
-use Rattle.card.specs.Bytes.{part, patch, tabulate, All, zeros}
+use Rattle.card.specs.Bytes.{part, tabulate, All, zeros}
 use Rattle.card.specs.Pot.{countAt, flagsAt, isZero}
 use Rattle.card.specs.Question.{Question, firstNo}
 use Rattle.card.specs.Range.{rangeIn, rangesOf}
@@ -143,13 +142,6 @@ put-both c b d x y h m n p q =
     rw (q, p, z, o) (patch-on c x y 512 m (omega (arith, h, n)) ∙ patch-last c 0 (x ++ y) long)
 
 -- ---- its bytes
-
--- a part of a page that was lent for writing, and into which bytes were copied
-pub lent-patch : (s : List ℕ) (at : ℕ) (new y : List ℕ) → at + length new ≤ length s
-    → y ≡ take (length new) new ++ drop (length new) (take (at + length new - at) (drop at s)) → putMid at (at + length new - at) s y ≡ patch s at new
-lent-patch s at new y h e =
-    let long : length new ≡ length (take (at + length new - at) (drop at s)) = simp (length-take, length-drop) (omega arith) in
-    rw (copied new _ y long e) (lent-part s new at (at + length new) (omega arith) (omega arith))
 
 -- zeros or those of its frame, as its pot says
 pub page-full : (v : Contents) (p : Address) (pot : List ℕ) → pot ≡ v (p .pot) → isZero (flagsAt pot (p .entry)) ≡ false → pageBytes v p ≡ v (p .page)

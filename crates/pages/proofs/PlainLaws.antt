@@ -1,7 +1,7 @@
 -- The plain machine beside what is lent to a call: it is asked the same, and of a call that is done it has the answer, the block and the tables.
 -- Assumes nothing.
 use Prim.Native.Nat.{ℕ, _+_, _≤_, _<_}
-use borrow.Author.Tests.{leb-true, ltb-true, eqb-true}
+use borrow.Author.Tests.{ltb-true, leb-true, eqb-true}
 use lib.Dec.{leb, ltb, eqb}
 use lib.ListN.{length}
 use mathlib.Core.Bool.{Bool, true, false, cond, false≢true}
@@ -20,16 +20,15 @@ use Rattle.card.specs.declared.range.Address.{Address}
 use Rattle.card.specs.declared.range.Lookup.{Lookup}
 use Rattle.card.specs.declared.range.Lookup.the-variants.{Located, Outside}
 use Rattle.frames.proofs.Run.{told, Asked}
-use Rattle.frames.specs.Promise as frames
 use Rattle.frames.specs.Promise.{Lent, meaningOf, common, FrameCall}
 use Rattle.pages.proofs.AnswerLaws.{Later, ownAsks, found-place}
 use Rattle.pages.proofs.BlankLaws.{blankFrames, blank-snapshotAsks, blank-pageOutAsks, blank-change, blank-snapshot, blank-pageOut, blank-kind}
-use Rattle.pages.proofs.LedgerLaws.{write-touches, rescind-touches, touches-apart, due-is, room-is, advance-is, kind-is, out-is}
-use Rattle.pages.proofs.Represents.{Shows, Long, changes-long, in-p, updated, write-whole, rescind-whole, write-same, rescind-same}
-use Rattle.pages.proofs.RowLaws.{write-row, write-other, rescind-row, rescind-other}
-use Rattle.pages.specs.Book.{written, rescinded}
+use Rattle.pages.proofs.LedgerLaws.{write-touches, rescind-touches, touches-apart, room-is, due-is, advance-is, out-is, kind-is}
+use Rattle.pages.proofs.Represents.{write-whole, rescind-whole, write-same, rescind-same, AsTable, Long, changes-long, in-p, updated}
+use Rattle.pages.proofs.RowLaws.{rescind-row, rescind-other, write-row, write-other}
+use Rattle.pages.specs.Book.{update, written, rescinded}
 use Rattle.pages.specs.Page.{Page, flagged, pageBytes, pageOf, writeFrames, rescindFrames}
-use Rattle.pages.specs.Plain.{Row, rowOf, Plain, blank, plainAddress, touched, writeTouches, rescindTouches, plainAsks, plainKind, Does, answers, setRow, plainWrite, plainRescind, plainAdvance, plainDone}
+use Rattle.pages.specs.Plain.{Row, rowOf, Plain, blank, plainAddress, touched, writeTouches, rescindTouches, plainAsks, plainKind, Does, answers, plainWrite, plainRescind, plainAdvance, plainDone}
 use Rattle.pages.specs.Promise.{Call, start, key, read, write, rescind, snapshot, pageOut, advance, Answer, done, counted, filled, wrote, answered, addressOf, atPlace, presentFrames, presentCount, writeChanges, rescindChanges, placed, frameCall, doneAnswer}
 use Rattle.recovery.proofs.Follows.{Follows}
 use Rattle.recovery.proofs.FrameTheorem.{reads-present}
@@ -39,6 +38,7 @@ use Rattle.recovery.specs.Questions.{roomAsks, given, advanceAsks}
 use Rattle.recovery.specs.Step.{changeFrames, afterChange, Kind, page, directory, trailer, migration, header, kindWrite, advanceDue}
 use Rattle.recovery.specs.Sums.{roomSums}
 use Rattle.recovery.specs.Write.{BlockWrite}
+use Rattle.frames.specs.Promise as frames
 
 placed-same : (a : Lookup) (f h : Address → List Question) → ((p : Address) → a ≡ Located p → f p ≡ h p) → placed a f ≡ placed a h
 unfolding atPlace
@@ -56,7 +56,7 @@ wrote-present header b = refl
 module _ (rs : List Range) (blocks area : ℕ) (full : blocks ≡ 1 + area + allBlocks rs) where
   -- the frames show each OID's page, with its flag, as the rows have it
   abbrev SameRows : Contents → (ℕ → Row) → Type 0
-  SameRows v rows = Shows rs blocks area full rowOf v rows
+  SameRows v rows = AsTable rs blocks area full rowOf v rows
 
   -- the machine's tables are those of what is lent, which passes questions 1 to 3
   pub record InStep (l : Lent) (t : Plain) : Type 0 where
@@ -83,8 +83,8 @@ module _ (rs : List Range) (blocks area : ℕ) (full : blocks ≡ 1 + area + all
     unchanged a a′ e = record { asked = tt; answer-is = e; write-is = refl; frames-are = refl; ledger-is = b .ledger-is; rows-are = b .rows-are; long = b .long }
 
     -- frames of one page change, and its row
-    changed : (ws touches : List FrameBytes) (o : ℕ) (x : Row) → blankFrames ws ≡ touches → All (WholeFrame area blocks) ws → SameRows (applyChanges ws (t .frames .present)) (setRow o x (t .rows))
-        → Agrees (frames.change ws) done (answers done (record { rows = setRow o x (t .rows); ledger = afterChange touches (t .ledger); frames = bookChange ws (t .frames) }))
+    changed : (ws touches : List FrameBytes) (o : ℕ) (x : Row) → blankFrames ws ≡ touches → All (WholeFrame area blocks) ws → SameRows (applyChanges ws (t .frames .present)) (update o x (t .rows))
+        → Agrees (frames.change ws) done (answers done (record { rows = update o x (t .rows); ledger = afterChange touches (t .ledger); frames = bookChange ws (t .frames) }))
     unfolding frames.doneWrite frames.doneAnswer frames.after told
     changed ws touches o x e whole rows = record {
       asked = rw (b .follows .area-is, b .follows .blocks-is) whole;
@@ -156,8 +156,7 @@ module _ (rs : List Range) (blocks area : ℕ) (full : blocks ≡ 1 + area + all
 
       -- ---- a write and a rescind of it
 
-      rows-changed : (v : Contents) (x : Row) → rowOf v p ≡ x → ((q : Address) → PlacesApart p q → rowOf v q ≡ rowOf present q) → SameRows v (setRow o x (t .rows))
-      unfolding setRow
+      rows-changed : (v : Contents) (x : Row) → rowOf v p ≡ x → ((q : Address) → PlacesApart p q → rowOf v q ≡ rowOf present q) → SameRows v (update o x (t .rows))
       rows-changed v x own others = updated rs blocks area full o p e rowOf present v (t .rows) x (b .rows-are) own others
 
       two : p .page ≢ p .pot
@@ -177,7 +176,7 @@ module _ (rs : List Range) (blocks area : ℕ) (full : blocks ≡ 1 + area + all
           own = write-row present p two pot-long (inside .entry-high) at new ∙ ap (λ (x : Page). record { page = written at new x; zero = false }) row-page
 
           go : (empty : Bool) → Agrees (frames.change (cond empty [] (writeFrames present p at new))) done (answers done (cond empty t (record {
-            rows = setRow o (record { page = written at new (t .rows o .page); zero = false }) (t .rows);
+            rows = update o (record { page = written at new (t .rows o .page); zero = false }) (t .rows);
             ledger = afterChange (cond empty [] (touched (p .page) ∷ cond (t .rows o .zero) (touched (p .pot) ∷ []) [])) (t .ledger);
             frames = bookChange (writeFrames present p at new) (t .frames);
           })))

@@ -8,19 +8,19 @@ use mathlib.Core.Bool.{cond}
 use mathlib.Core.List.{List, [], _∷_}
 use mathlib.Core.Logic.{_≢_}
 use mathlib.Core.Option.{none, some, Option·getD}
-use mathlib.Core.Path.{_≡_, ap, refl, sym, _∙_}
+use mathlib.Core.Path.{_≡_, refl, ap, sym, _∙_}
 use native.Mathlib.Decide.{ℕ-discrete}
 use native.Mathlib.Omega.{arith}
-use Rattle.card.proofs.AddressLaws.{PlacesApart, places-apart, Within, lies}
-use Rattle.card.proofs.BytesLaws.{none-long, patch-length, patch-none, zeros-length}
-use Rattle.card.proofs.PotLaws.{putCount-length, putFlags-length}
+use Rattle.card.proofs.AddressLaws.{Within, lies, PlacesApart, places-apart}
+use Rattle.card.proofs.BytesLaws.{patch-length, patch-none, none-long, zeros-length}
+use Rattle.card.proofs.PotLaws.{putFlags-length, putCount-length}
 use Rattle.card.proofs.Test.{byTest}
 use Rattle.card.specs.Bytes.{All}
 use Rattle.card.specs.Pot.{countAt}
-use Rattle.card.specs.Range.{Range, allBlocks, locate}
+use Rattle.card.specs.Range.{Range, locate, allBlocks}
 use Rattle.card.specs.declared.range.Address.{Address}
 use Rattle.card.specs.declared.range.Lookup.the-variants.{Located}
-use Rattle.pages.proofs.RowLaws.{write-row, write-other, rescind-row, rescind-other}
+use Rattle.pages.proofs.RowLaws.{rescind-row, rescind-other, write-row, write-other}
 use Rattle.pages.specs.Book.{Table, Book, update, presentTo, written, rescinded, headerReached}
 use Rattle.pages.specs.Page.{Page, flagged, pageBytes, pageOf, writeFrames, rescindPot, rescindFrames}
 use Rattle.pages.specs.Plain.{Row, rowOf}
@@ -60,11 +60,11 @@ rescind-same u v p e = rw e
 
 module _ (rs : List Range) (blocks area : ℕ) (full : blocks ≡ 1 + area + allBlocks rs) where
   -- what the frames show of each OID's page is as the table has it
-  abbrev pub Shows : {A : Type 0} → (Contents → Address → A) → Contents → (ℕ → A) → Type 0
-  Shows of v t = (oid : ℕ) (p : Address) → locate rs (1 + area) oid ≡ Located p → of v p ≡ t oid
+  abbrev pub AsTable : {A : Type 0} → (Contents → Address → A) → Contents → (ℕ → A) → Type 0
+  AsTable of v t = (oid : ℕ) (p : Address) → locate rs (1 + area) oid ≡ Located p → of v p ≡ t oid
 
   abbrev pub SamePages : Contents → Table → Type 0
-  SamePages v t = Shows pageOf v t
+  SamePages v t = AsTable pageOf v t
 
   -- every home frame has a block of bytes
   abbrev pub Long : Contents → Type 0
@@ -92,9 +92,9 @@ module _ (rs : List Range) (blocks area : ℕ) (full : blocks ≡ 1 + area + all
   represents-present b pb v t h l s = record { long-present = l; long-marked = h .long-marked; long-kept = h .long-kept; present-is = s; marked-is = h .marked-is; kept-is = h .kept-is }
 
   -- a write of length 0 is no news
-  pub write-nothing : (b : FrameBook) (pb : Book) → Represents b pb → (o at : ℕ) (new : List ℕ) → length new ≡ 0
+  pub nothing-represents : (b : FrameBook) (pb : Book) → Represents b pb → (o at : ℕ) (new : List ℕ) → length new ≡ 0
       → Represents b (presentTo (update o (written at new (pb .present o)) (pb .present)) pb)
-  write-nothing b pb h o at new e = represents-present b pb (b .present) _ h (h .long-present) (λ u q k. h .present-is u q k ∙ sym (same u))
+  nothing-represents b pb h o at new e = represents-present b pb (b .present) _ h (h .long-present) (λ u q k. h .present-is u q k ∙ sym (same u))
     where
       page-same : written at new (pb .present o) ≡ pb .present o
       page-same = rw (none-long new e) (λ i. record { bytes = patch-none (pb .present o .bytes) at i; count = pb .present o .count })
@@ -115,8 +115,9 @@ module _ (rs : List Range) (blocks area : ℕ) (full : blocks ≡ 1 + area + all
     in-p = rw full (lies rs (1 + area) oid p at-p)
 
     -- contents that change at oid as the table does
-    pub updated : {A : Type 0} (of : Contents → Address → A) (v v′ : Contents) (t : ℕ → A) (x : A) → Shows of v t → of v′ p ≡ x → ((q : Address) → PlacesApart p q → of v′ q ≡ of v q)
-        → Shows of v′ (λ o. cond (eqb o oid) x (t o))
+    pub updated : {A : Type 0} (of : Contents → Address → A) (v v′ : Contents) (t : ℕ → A) (x : A) → AsTable of v t → of v′ p ≡ x → ((q : Address) → PlacesApart p q → of v′ q ≡ of v q)
+        → AsTable of v′ (update oid x t)
+    unfolding update
     updated of v v′ t x h own others o q e = go (ℕ-discrete o oid)
       where
         go : Dec (o ≡ oid) → of v′ q ≡ cond (eqb o oid) x (t o)
@@ -141,7 +142,7 @@ module _ (rs : List Range) (blocks area : ℕ) (full : blocks ≡ 1 + area + all
 
       pub write-represents : (at : ℕ) (new : List ℕ) → All (WholeFrame area blocks) (writeFrames (b .present) p at new)
           → Represents (bookChange (writeFrames (b .present) p at new) b) (presentTo (update oid (written at new (pb .present oid)) (pb .present)) pb)
-      unfolding rowOf update
+      unfolding rowOf
       write-represents at new a = represents-present b pb _ _ h (changes-long _ (b .present) a (h .long-present))
           (updated pageOf (b .present) _ (pb .present) _ (h .present-is)
           (ap (λ (r : Row). r .page) (write-row (b .present) p two pot-long (in-p .entry-high) at new) ∙ ap (written at new) (h .present-is oid p at-p))
@@ -149,7 +150,7 @@ module _ (rs : List Range) (blocks area : ℕ) (full : blocks ≡ 1 + area + all
 
       pub rescind-represents : pb .present oid .count < 4294967295 → All (WholeFrame area blocks) (rescindFrames (b .present) p)
           → Represents (bookChange (rescindFrames (b .present) p) b) (presentTo (update oid (rescinded (pb .present oid)) (pb .present)) pb)
-      unfolding rowOf update
+      unfolding rowOf
       rescind-represents l a = represents-present b pb _ _ h (changes-long _ (b .present) a (h .long-present))
           (updated pageOf (b .present) _ (pb .present) _ (h .present-is)
           (ap (λ (r : Row). r .page) (rescind-row (b .present) p two pot-long (in-p .entry-high) (omega (arith, count-is))) ∙ ap rescinded (h .present-is oid p at-p))

@@ -31,7 +31,7 @@ use Rattle.frames.specs.Promise as frames
 use Rattle.frames.specs.Promise.{Lent, common, FrameAnswer}
 use Rattle.pages.proofs.AnswerLaws.{ownAsks, asked-both, found-place, frames-asked, block-done, block-none, kept-done, kept-refused, lowered}
 use Rattle.pages.proofs.BookLaws.{told-refused}
-use Rattle.pages.proofs.Represents.{write-whole, rescind-whole, write-same, rescind-same, Represents, represents-start, represents-snapshot, represents-header, write-nothing, in-p, pot-long, page-long, write-represents, rescind-represents}
+use Rattle.pages.proofs.Represents.{write-whole, rescind-whole, write-same, rescind-same, Represents, represents-start, represents-snapshot, represents-header, nothing-represents, in-p, pot-long, page-long, write-represents, rescind-represents}
 use Rattle.pages.specs.Book.{Book, Event, called, cutIn, update, presentTo, written, rescinded, headerReached, isDone, isHeader, told, bookAfter}
 use Rattle.pages.specs.Demand3.{World, lentTo, ReachedIs, Step, calls, cutsIn, cuts, Run, ended, then}
 use Rattle.pages.specs.Page.{Page, pageBytes, pageOf, writeFrames, rescindFrames}
@@ -138,7 +138,7 @@ module _ (m₀ card₀ : List ℕ) (accepted : firstNo (startAsks m₀ card₀) 
         write-news : (at : ℕ) (new : List ℕ) → at + length new ≤ 512 → News (writeChanges l at new p) (presentTo (update o (written at new (b .present o)) (b .present)) b)
         unfolding writeChanges applyChanges
         write-news at new short = byTest (λ (ws : List FrameBytes). News ws (presentTo (update o (written at new (b .present o)) (b .present)) b)) (eqb (length new) 0)
-            (λ e. (tt, write-nothing rs blocks area full book b (s .same) o at new (eqb-true _ _ e)))
+            (λ e. (tt, nothing-represents rs blocks area full book b (s .same) o at new (eqb-true _ _ e)))
             (λ e. rw (write-same (presentFrames l) (book .present) p at new pot-is page-is)
             (asked (writeFrames (book .present) p at new) home, write-represents rs blocks area full o p at-p book b (s .same) at new home))
           where

@@ -29,7 +29,8 @@ pub data Event : Type 0 where
 abbrev pub formatBook : Book
 formatBook = record { present = λ o. record { bytes = zeros; count = 0 }; marked = none; kept = λ o. record { bytes = zeros; count = 0 } }
 
-unfoldable pub update : ℕ → Page → Table → Table
+-- a table with another row
+unfoldable pub update : {A : Type 0} → ℕ → A → (ℕ → A) → ℕ → A
 update oid x t o = cond (eqb o oid) x (t o)
 
 abbrev pub presentTo : Table → Book → Book

@@ -14,7 +14,7 @@ use Rattle.card.specs.Ring.{ringAt}
 use Rattle.card.specs.declared.range.Address.{Address}
 use Rattle.card.specs.declared.range.Lookup.{Lookup}
 use Rattle.frames.specs.Promise.{advanced}
-use Rattle.pages.specs.Book.{written, rescinded}
+use Rattle.pages.specs.Book.{update, written, rescinded}
 use Rattle.pages.specs.Page.{Page, flagged, pageOf, writeFrames, rescindFrames}
 use Rattle.pages.specs.Promise.{Call, start, key, read, write, rescind, snapshot, pageOut, advance, Answer, refused, done, counted, filled, wrote, atPlace, placed, refusal}
 use Rattle.recovery.specs.Book.{FrameBook, markedOr, bookChange, bookSnapshot, bookWrote}
@@ -106,19 +106,16 @@ pub record Does : Type 0 where
 abbrev pub answers : Answer → Plain → Does
 answers a t = record { answer = a; write = none; next = t }
 
-unfoldable pub setRow : ℕ → Row → (ℕ → Row) → ℕ → Row
-setRow oid x rows o = cond (eqb o oid) x (rows o)
-
 unfoldable pub plainWrite : ℕ → ℕ → List ℕ → Plain → Address → Plain
 plainWrite o at new t p = cond (eqb (length new) 0) t (record {
-  rows = setRow o (record { page = written at new (t .rows o .page); zero = false }) (t .rows);
+  rows = update o (record { page = written at new (t .rows o .page); zero = false }) (t .rows);
   ledger = afterChange (writeTouches (t .rows o) new p) (t .ledger);
   frames = bookChange (writeFrames (t .frames .present) p at new) (t .frames);
 })
 
 unfoldable pub plainRescind : ℕ → Plain → Address → Plain
 plainRescind o t p = record {
-  rows = setRow o (record { page = rescinded (t .rows o .page); zero = true }) (t .rows);
+  rows = update o (record { page = rescinded (t .rows o .page); zero = true }) (t .rows);
   ledger = afterChange (rescindTouches p) (t .ledger);
   frames = bookChange (rescindFrames (t .frames .present) p) (t .frames);
 }

@@ -4,7 +4,7 @@ use borrow.Author.Needs.{needs}
 use lib.ListN.{length}
 use mathlib.Core.Path.{_≡_}
 use native.Mathlib.Omega.{arith}
-use Rattle.pages.proofs.NamedLaws.{lent-patch}
+use Rattle.card.proofs.BytesLaws.{lent-patch}
 use Rattle.pages.proofs.write.patched.Statement.{statement}
 use Rattle.pages.proofs.write.patched.Tie as tie
 
@@ -12,7 +12,7 @@ returns : tie.Need-returns
 returns c =
     let at-start = c .before .before .before .before in
     let long : length (at-start .args .page) ≡ 512 = search needs in
-    lent-patch (at-start .args .page) (at-start .args .at) (at-start .args .new .now) _ (omega (arith, at-start .pre, long)) (c .before .copy .ensures .1)
+    lent-patch (at-start .args .page) (at-start .args .new .now) _ (at-start .args .at) _ (omega arith) (omega (arith, at-start .pre, long)) (omega arith) (c .before .copy .ensures .1)
 
 pub patched-spec : {M : Type 1} → statement M
 patched-spec =
