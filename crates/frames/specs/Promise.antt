@@ -50,7 +50,7 @@ pub record Outcome (A : Type 0) : Type 0 where
 
 -- by its number, 0 or that of the first "no"
 abbrev pub outcomeOf : {A : Type 0} → ℕ → A → A → Option BlockWrite → State → Outcome A
-outcomeOf n done refusal write after = record { number = n; answer = cond (eqb n 0) done refusal; write = cond (eqb n 0) write none; after = after }
+outcomeOf n finished refusal write next = record { number = n; answer = cond (eqb n 0) finished refusal; write = cond (eqb n 0) write none; after = next }
 
 -- of a call that was lent l, answers a and leaves l′; refused, it leaves `back`
 pub record Keeps {A : Type 0} (o : Outcome A) (back l : Lent) (a : A) (l′ : Lent) : Type 0 where

@@ -4,7 +4,7 @@ use record::hold;
 use record::store::Store;
 ghost use mathlib.Core.Path.{_≡_};
 ghost use mathlib.Core.Bool.{_&&_};
-ghost use Prim.Native.Nat.{_*_, _≤_};
+ghost use Prim.Native.Nat.{_*_};
 ghost use lib.Dec.{eqb};
 ghost use Rattle.card.specs.Block.{whole};
 ghost use Rattle.card.specs.Question.{firstNo};

@@ -23,7 +23,7 @@ use Rattle.frames.specs.declared.answer.Done.{Done}
 use Rattle.pages.proofs.AnswerLaws.{change-none, keeps-no, keeps-same, lifted}
 use Rattle.pages.proofs.NamedLaws.{changing-one, changing-two, one-frame, two-frames, asks-located, names-common, names-count, names-within, asks-stop, asks-on}
 use Rattle.pages.specs.Page.{pageBytes, writeFrames, rescindPot, rescindFrames}
-use Rattle.pages.specs.Promise.{Call, start, key, read, write, rescind, snapshot, pageOut, advance, refused, done, counted, filled, answered, countedAs, addressOf, atPlace, presentFrames, presentCount, writeChanges, rescindChanges, asks, frameCall, doneAnswer, refusal, Kept, Names}
+use Rattle.pages.specs.Promise.{Call, start, key, read, write, rescind, snapshot, pageOut, advance, refused, done, counted, filled, answered, countedAs, addressOf, atPlace, presentFrames, presentCount, writeChanges, rescindChanges, asks, frameCall, doneAnswer, refusal, Kept, NamedIs}
 use Rattle.pages.specs.declared.answer.Count.the-variants.{Present, Refused}
 use Rattle.pages.specs.declared.named.Named.{Named}
 use Rattle.record.specs.Holds.{holdsTogether}
@@ -52,7 +52,7 @@ module _ (l l′ : Lent) (a : FrameAnswer) where
 
 -- ---- a page that is named, and passes
 
-module _ (l : Lent) (o : ℕ) (rest : Address → List Question) (r : Named) (n : Names l o rest r) (z : r .refusal ≡ 0) where
+module _ (l : Lent) (o : ℕ) (rest : Address → List Question) (r : Named) (n : NamedIs l o rest r) (z : r .refusal ≡ 0) where
   names-together : holdsTogether (l .store) ≡ true
   names-together = ready (l .store) (length (l .memory)) (length (l .card)) (names-common l o rest r n z) .together
 
@@ -77,7 +77,7 @@ module _ (l : Lent) (o : ℕ) (rest : Address → List Question) (r : Named) (n 
 
 -- ---- key
 
-module _ (l : Lent) (o : ℕ) (r : Named) (n : Names l o (λ p. []) r) where
+module _ (l : Lent) (o : ℕ) (r : Named) (n : NamedIs l o (λ p. []) r) where
   pub key-refused : r .refusal ≢ 0 → Kept (key o) l (countedAs (Refused (r .refusal))) l
   unfolding asks frameCall refusal countedAs
   key-refused z = keeps-no (key o) l (r .refusal) (sym (n .refusal-is)) z
@@ -95,14 +95,14 @@ abbrev pub keyAsks : Lent → ℕ → Address → List Question
 keyAsks l count p = ask 10 (eqb (presentCount l p) count) ∷ []
 
 -- passed: it is the present count
-pub key-fits : (l : Lent) (o count : ℕ) (r : Named) → Names l o (keyAsks l count) r → r .refusal ≡ 0 → countAt (r .pot) (r .address .entry) ≡ count
+pub key-fits : (l : Lent) (o count : ℕ) (r : Named) → NamedIs l o (keyAsks l count) r → r .refusal ≡ 0 → countAt (r .pot) (r .address .entry) ≡ count
 key-fits l o count r n z =
     let e = asks-located l o (keyAsks l count) (r .address) (names-common l o _ r n z) (n .place-is z) in
     names-count l o _ r n z ∙ eqb-true _ count (passed-both 9 _ [] (sym e ∙ sym (n .refusal-is) ∙ z) .0)
 
 -- ---- read
 
-module _ (l : Lent) (o count : ℕ) (x : List ℕ) (r : Named) (n : Names l o (keyAsks l count) r) where
+module _ (l : Lent) (o count : ℕ) (x : List ℕ) (r : Named) (n : NamedIs l o (keyAsks l count) r) where
   abbrev read-more : Address → List Question
   read-more p = ask 11 (eqb (length x) 512) ∷ []
 
@@ -146,7 +146,7 @@ change-kept c l ws call passed asked ends same names bytes d {after} are k =
 
 -- ---- rescind
 
-module _ (l : Lent) (o count : ℕ) (r : Named) (n : Names l o (keyAsks l count) r) where
+module _ (l : Lent) (o count : ℕ) (r : Named) (n : NamedIs l o (keyAsks l count) r) where
   abbrev rescind-more : Address → List Question
   rescind-more p = ask 15 (ltb count 4294967295) ∷ roomAsks (rescindChanges l p) (meaningOf l)
 
@@ -173,7 +173,7 @@ module _ (l : Lent) (o count : ℕ) (r : Named) (n : Names l o (keyAsks l count)
 
 -- ---- write
 
-module _ (l : Lent) (o count at : ℕ) (new : List ℕ) (r : Named) (n : Names l o (keyAsks l count) r) where
+module _ (l : Lent) (o count at : ℕ) (new : List ℕ) (r : Named) (n : NamedIs l o (keyAsks l count) r) where
   abbrev write-more : Address → List Question
   write-more p = ask 11 (leb (at + length new) 512) ∷ roomAsks (writeChanges l at new p) (meaningOf l)
 

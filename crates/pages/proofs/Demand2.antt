@@ -23,7 +23,7 @@ use Rattle.frames.specs.Promise.{Lent, lent, meaningOf, FrameKept}
 use Rattle.pages.proofs.AnswerLaws.{Later, asked-both, asked-own, frames-asked, kept-done, kept-refused, lowered}
 use Rattle.pages.proofs.PlainLaws.{InStep, same-asks, agrees}
 use Rattle.pages.specs.Demand2.{plainAnswers, plainCard, NoStart, Calls, finished, next, Demand2}
-use Rattle.pages.specs.Plain.{Plain, blank, plainOf, plainAsks, Does, answers, plainDone, plainDoes}
+use Rattle.pages.specs.Plain.{Plain, blank, plainOf, plainAsks, PlainOutcome, answers, plainDone, plainDoes}
 use Rattle.pages.specs.Promise.{Call, start, key, read, write, rescind, snapshot, pageOut, advance, Answer, refused, done, atPlace, asks, frameCall, refusal, Kept}
 use Rattle.record.specs.Meaning.{zeroStore}
 use Rattle.recovery.proofs.Follows.{Stored, Follows}
@@ -59,7 +59,7 @@ module _ (rs : List Range) (blocks area : ℕ) (full : blocks ≡ 1 + area + all
 
   module _ (c : Call) (k : Later c) (l l′ : Lent) (a : Answer) (p : Kept c l a l′) (t : Plain) (b : InStep rs blocks area full l t) where
     -- it answers and writes as the machine does, and leaves the machine beside it
-    abbrev Same : Does → Type 0
+    abbrev Same : PlainOutcome → Type 0
     Same d = (a ≡ d .answer) × (l′ .card ≡ putDown (d .write) (l .card)) × InStep rs blocks area full l′ (d .next)
 
     held : LentOk blocks area rs (frameCall c l) l (t .frames) × (frames.handedBack (frameCall c l) l ≡ l)

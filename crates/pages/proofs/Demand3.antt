@@ -10,30 +10,30 @@ use mathlib.Core.Path.{_≡_, refl, ap, sym, _∙_}
 use native.Mathlib.Omega.{arith}
 use Rattle.card.proofs.QuestionLaws.{none-asked, asked-yes}
 use Rattle.card.specs.Block.{blockAt, whole}
-use Rattle.card.specs.Bytes.{zeros}
 use Rattle.card.specs.Header.{headerOn}
 use Rattle.card.specs.Question.{firstNo, headerRanges}
 use Rattle.card.specs.Range.{locate}
 use Rattle.card.specs.declared.range.Address.{Address}
 use Rattle.card.specs.declared.range.Lookup.{Lookup}
 use Rattle.card.specs.declared.range.Lookup.the-variants.{Located}
-use Rattle.frames.proofs.KeepLaws as keep
 use Rattle.frames.proofs.Recovery.{frames-recover}
-use Rattle.frames.proofs.Run.{stays, firstWorld, startLent, Serves}
-use Rattle.frames.specs.Promise as frames
-use Rattle.frames.specs.Promise.{Lent, lent, common, meaningOf, FrameAnswer, FrameKept}
+use Rattle.frames.proofs.Run.{startLent, stays, firstWorld, Serves}
+use Rattle.frames.specs.Promise.{Lent, lent, meaningOf, common, FrameAnswer, FrameKept}
 use Rattle.pages.proofs.AnswerLaws.{ownAsks, asked-own, change-none, kept-done, lowered}
 use Rattle.pages.proofs.FormatLaws.{format-area, format-ranges, format-accepted, format-shows, format-done}
 use Rattle.pages.proofs.RunLaws.{has-frames, Beside, serves, address-is, page-shown, called-beside, run-beside}
 use Rattle.pages.specs.Book.{Book, Event, formatBook, isDone, told, bookAfter}
 use Rattle.pages.specs.Demand3.{World, Run, Shows, Demand3}
-use Rattle.pages.specs.Page.{Page, pageOf, formatCard}
+use Rattle.pages.specs.Page.{Page, emptyPage, pageOf, formatCard}
 use Rattle.pages.specs.Promise.{start, key, read, Answer, done, counted, filled, addressOf, atPlace, presentFrames, asks, frameCall, doneAnswer, Kept, rangesIn, formatAsks, FormatKept}
+use Rattle.record.proofs.Held.{held}
 use Rattle.record.specs.Meaning.{zeroStore}
 use Rattle.recovery.proofs.FrameTheorem.{accepted-stored, stored-long}
 use Rattle.recovery.specs.Questions.{startAsks}
 use Rattle.recovery.specs.State.{State, readFrame}
 use Rattle.recovery.specs.Step.{startState}
+use Rattle.frames.proofs.KeepLaws as keep
+use Rattle.frames.specs.Promise as frames
 
 -- the place of an OID by a card's header
 abbrev placeOn : List ℕ → ℕ → Lookup
@@ -129,7 +129,7 @@ module _ (area : ℕ) (numbers before card : List ℕ) (k : FormatKept area numb
     formatted : firstNo (startAsks m card) ≡ 0
     formatted = rw card-is (format-accepted area numbers before format-passes m memory)
 
-    first-pages : (o : ℕ) (p : Address) → placeOn card o ≡ Located p → pageOf (readFrame (startState m card) card) p ≡ record { bytes = zeros; count = 0 }
+    first-pages : (o : ℕ) (p : Address) → placeOn card o ≡ Located p → pageOf (readFrame (startState m card) card) p ≡ emptyPage
     first-pages o p e = rw card-is (format-shows area numbers before format-passes o p (sym (place-same o) ∙ e) m)
 
     first-beside : Beside m card formatted (record { card = card; held = none }) formatBook

@@ -19,17 +19,16 @@ use Rattle.card.proofs.QuestionLaws.{none-asked, asked-yes, asked-no, passed-bo
 use Rattle.card.proofs.RangeLaws.{Geometry, geometry-tells}
 use Rattle.card.proofs.Test.{both, joined}
 use Rattle.card.specs.Block.{blockAt, putBlock, whole}
-use Rattle.card.specs.Bytes.{All, zeros}
+use Rattle.card.specs.Bytes.{All}
 use Rattle.card.specs.Header.{headerBlock, headerOn}
 use Rattle.card.specs.Pot.{isZero, freshPot}
 use Rattle.card.specs.Question.{firstNo, headerRanges}
 use Rattle.card.specs.Range.{Range, geometryFits, locate, allPots}
 use Rattle.card.specs.declared.range.Address.{Address}
 use Rattle.card.specs.declared.range.Lookup.the-variants.{Located}
-use Rattle.frames.specs.Promise as frames
 use Rattle.frames.specs.Promise.{numbered}
 use Rattle.pages.proofs.PotsLaws.{putPots-length, putPots-other, putPots-fresh}
-use Rattle.pages.specs.Page.{pageBytes, pageOf, putPots, formatCard}
+use Rattle.pages.specs.Page.{emptyPage, pageBytes, pageOf, putPots, formatCard}
 use Rattle.pages.specs.Promise.{done, answered, rangesIn, formatAsks, FormatKept}
 use Rattle.recovery.proofs.Follows.{Stored}
 use Rattle.recovery.proofs.FrameTheorem.{format-stored, stored-accepts, stored-start, reads-present}
@@ -38,6 +37,7 @@ use Rattle.recovery.specs.Contents.{Contents}
 use Rattle.recovery.specs.Questions.{startAsks}
 use Rattle.recovery.specs.State.{readFrame}
 use Rattle.recovery.specs.Step.{startState}
+use Rattle.frames.specs.Promise as frames
 
 -- ---- the formatted card
 
@@ -77,7 +77,7 @@ module _ (blocks area : ℕ) (rs : List Range) (c : List ℕ) (long : length c �
       put-other _ 0 (headerBlock 0 0 area rs) head-long head-fits n no-head ∙ putPots-other blocks c (allPots rs (1 + area)) n long all-pots other
 
 -- a page whose pot is fresh is zeros, and its count 0
-pub fresh-page : (v : Contents) (p : Address) → v (p .pot) ≡ freshPot → p .entry < 102 → pageOf v p ≡ record { bytes = zeros; count = 0 }
+pub fresh-page : (v : Contents) (p : Address) → v (p .pot) ≡ freshPot → p .entry < 102 → pageOf v p ≡ emptyPage
 unfolding pageOf pageBytes isZero
 fresh-page v p e h = rw (e, fresh-flags (p .entry) h, fresh-count (p .entry) h)
 
@@ -127,11 +127,11 @@ module _ (area : ℕ) (numbers before : List ℕ) (ok : firstNo (formatAsks area
     within : Within (1 + area) (length before / 512) p
     within = lies-home (length before / 512) area (rangesIn numbers) oid p (passed .1) at
 
-    pub format-pages : pageOf (blockAt (formatCard area (rangesIn numbers) before)) p ≡ record { bytes = zeros; count = 0 }
+    pub format-pages : pageOf (blockAt (formatCard area (rangesIn numbers) before)) p ≡ emptyPage
     format-pages = fresh-page _ p pot-fresh (within .entry-high)
 
     pub format-shows : (m : List ℕ)
-        → pageOf (readFrame (startState m (formatCard area (rangesIn numbers) before)) (formatCard area (rangesIn numbers) before)) p ≡ record { bytes = zeros; count = 0 }
+        → pageOf (readFrame (startState m (formatCard area (rangesIn numbers) before)) (formatCard area (rangesIn numbers) before)) p ≡ emptyPage
     format-shows m =
         let card : List ℕ = formatCard area (rangesIn numbers) before in
         let b : FrameBook = record { present = blockAt card; marked = none; kept = blockAt card } in

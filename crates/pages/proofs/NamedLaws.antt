@@ -28,7 +28,7 @@ use Rattle.frames.proofs.ReadyLaws.{ready, common-passed, common-both, common-r
 use Rattle.frames.specs.Parts.{framesWith, Changing}
 use Rattle.frames.specs.Promise.{Lent, meaningOf, commonAsks, common}
 use Rattle.pages.specs.Page.{pageBytes}
-use Rattle.pages.specs.Promise.{addressOf, atPlace, presentFrames, presentCount, placed, Names}
+use Rattle.pages.specs.Promise.{addressOf, atPlace, presentFrames, presentCount, placed, NamedIs}
 use Rattle.pages.specs.declared.named.Named.{Named}
 use Rattle.record.proofs.Held.{held}
 use Rattle.record.specs.Holds.{holdsTogether}
@@ -172,12 +172,12 @@ module _ (l : Lent) (oid : ℕ) where
   asks-located rest p h e = common-passed (l .store) (length (l .memory)) (length (l .card)) _ h ∙ ap (λ (a : Lookup). firstNo (placed a rest)) e
 
   -- a refused page has no place to tell
-  pub names-no : (rest : Address → List Question) (r : Named) → r .refusal ≢ 0 → r .refusal ≡ firstNo (common l ++ placed (addressOf l oid) rest) → Names l oid rest r
+  pub names-no : (rest : Address → List Question) (r : Named) → r .refusal ≢ 0 → r .refusal ≡ firstNo (common l ++ placed (addressOf l oid) rest) → NamedIs l oid rest r
   names-no rest r z e = record { refusal-is = e; place-is = λ h. absurd (z h); pot-is = λ h. absurd (z h) }
 
   -- one that passes, with its place and its pot
   pub names-yes : (rest : Address → List Question) (r : Named) (p : Address) → firstNo (common l) ≡ 0 → addressOf l oid ≡ Located p
-      → r .refusal ≡ firstNo (rest p) → r .address ≡ p → r .pot ≡ presentFrames l (p .pot) → Names l oid rest r
+      → r .refusal ≡ firstNo (rest p) → r .address ≡ p → r .pot ≡ presentFrames l (p .pot) → NamedIs l oid rest r
   names-yes rest r p h e z a q = record {
     refusal-is = z ∙ sym (asks-located rest p h e);
     place-is = λ _. e ∙ ap Located (sym a);
@@ -185,7 +185,7 @@ module _ (l : Lent) (oid : ℕ) where
   }
 
   -- what a page that passed tells
-  module _ (rest : Address → List Question) (r : Named) (n : Names l oid rest r) (z : r .refusal ≡ 0) where
+  module _ (rest : Address → List Question) (r : Named) (n : NamedIs l oid rest r) (z : r .refusal ≡ 0) where
     pub names-common : firstNo (common l) ≡ 0
     names-common = common-both (l .store) (length (l .memory)) (length (l .card)) (placed (addressOf l oid) rest) (sym (n .refusal-is) ∙ z) .0
 
@@ -196,7 +196,7 @@ module _ (l : Lent) (oid : ℕ) where
     names-within = named-within l oid (r .address) names-common (n .place-is z)
 
   -- more questions after those that were asked: none is reached, or the rest counts
-  module _ (first more : Address → List Question) (r : Named) (n : Names l oid first r) where
+  module _ (first more : Address → List Question) (r : Named) (n : NamedIs l oid first r) where
     pub asks-stop : r .refusal ≢ 0 → firstNo (common l ++ placed (addressOf l oid) (λ p. first p ++ more p)) ≡ r .refusal
     asks-stop z = go (ℕ-discrete (firstNo (common l)) 0) ∙ sym (n .refusal-is)
       where
@@ -214,8 +214,8 @@ module _ (l : Lent) (oid : ℕ) where
         let first-yes : firstNo (first (r .address)) ≡ 0 = sym (asks-located first (r .address) h e) ∙ sym (n .refusal-is) ∙ z in
         asks-located (λ p. first p ++ more p) (r .address) h e ∙ group-yes (first (r .address)) (more (r .address)) numbers first-yes
 
-    pub names-stop : r .refusal ≢ 0 → Names l oid (λ p. first p ++ more p) r
+    pub names-stop : r .refusal ≢ 0 → NamedIs l oid (λ p. first p ++ more p) r
     names-stop z = names-no (λ p. first p ++ more p) r z (sym (asks-stop z))
 
-    pub names-on : All (λ (q : Question). 0 < q .number) (first (r .address)) → r .refusal ≡ 0 → firstNo (more (r .address)) ≡ 0 → Names l oid (λ p. first p ++ more p) r
+    pub names-on : All (λ (q : Question). 0 < q .number) (first (r .address)) → r .refusal ≡ 0 → firstNo (more (r .address)) ≡ 0 → NamedIs l oid (λ p. first p ++ more p) r
     names-on numbers z e = record { refusal-is = z ∙ sym (asks-on numbers z ∙ e); place-is = n .place-is; pot-is = n .pot-is }

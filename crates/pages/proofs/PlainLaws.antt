@@ -28,7 +28,7 @@ use Rattle.pages.proofs.Represents.{write-whole, rescind-whole, write-s
 use Rattle.pages.proofs.RowLaws.{rescind-row, rescind-other, write-row, write-other}
 use Rattle.pages.specs.Book.{update, written, rescinded}
 use Rattle.pages.specs.Page.{Page, flagged, pageBytes, pageOf, writeFrames, rescindFrames}
-use Rattle.pages.specs.Plain.{Row, rowOf, Plain, blank, plainAddress, touched, writeTouches, rescindTouches, plainAsks, plainKind, Does, answers, plainWrite, plainRescind, plainAdvance, plainDone}
+use Rattle.pages.specs.Plain.{Row, rowOf, Plain, blank, plainAddress, touched, writeTouches, rescindTouches, plainAsks, plainKind, PlainOutcome, answers, plainWrite, plainRescind, plainAdvance, plainDone}
 use Rattle.pages.specs.Promise.{Call, start, key, read, write, rescind, snapshot, pageOut, advance, Answer, done, counted, filled, wrote, answered, addressOf, atPlace, presentFrames, presentCount, writeChanges, rescindChanges, placed, frameCall, doneAnswer}
 use Rattle.recovery.proofs.Follows.{Follows}
 use Rattle.recovery.proofs.FrameTheorem.{reads-present}
@@ -69,7 +69,7 @@ module _ (rs : List Range) (blocks area : ℕ) (full : blocks ≡ 1 + area + all
   module _ (l : Lent) (t : Plain) (b : InStep l t) where
     -- A call that is done, as the frame layer's call that it comes to and its answer, and what the machine does: answer and block are the same, and so are the tables
     -- that they leave.
-    pub record Agrees (c : FrameCall) (a : Answer) (d : Does) : Type 0 where
+    pub record Agrees (c : FrameCall) (a : Answer) (d : PlainOutcome) : Type 0 where
       pub asked : Asked c l
       pub answer-is : a ≡ d .answer
       pub write-is : frames.doneWrite c l ≡ d .write

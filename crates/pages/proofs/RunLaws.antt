@@ -33,7 +33,7 @@ use Rattle.pages.proofs.AnswerLaws.{ownAsks, asked-both, found-place, f
 use Rattle.pages.proofs.BookLaws.{told-refused}
 use Rattle.pages.proofs.Represents.{write-whole, rescind-whole, write-same, rescind-same, Represents, represents-start, represents-snapshot, represents-header, nothing-represents, in-p, pot-long, page-long, write-represents, rescind-represents}
 use Rattle.pages.specs.Book.{Book, Event, called, cutIn, update, presentTo, written, rescinded, headerReached, isDone, isHeader, told, bookAfter}
-use Rattle.pages.specs.Demand3.{World, lentTo, ReachedIs, Step, calls, cutsIn, cuts, Run, ended, then}
+use Rattle.pages.specs.Demand3.{World, lentTo, ReachedIs, Step, calls, cutWithin, cutBetween, Run, ended, then}
 use Rattle.pages.specs.Page.{Page, pageBytes, pageOf, writeFrames, rescindFrames}
 use Rattle.pages.specs.Promise.{Call, start, key, read, write, rescind, snapshot, pageOut, advance, Answer, answered, addressOf, atPlace, presentFrames, presentCount, writeChanges, rescindChanges, asks, frameCall, doneAnswer, outcome, Kept}
 use Rattle.record.specs.Meaning.{zeroStore}
@@ -272,8 +272,8 @@ module _ (m₀ card₀ : List ℕ) (accepted : firstNo (startAsks m₀ card₀) 
 
   step-beside : (e : Event) (u v : World) (b : Book) → Step e u v → Beside u b → Beside v (told e b)
   step-beside e u v b (calls c a w l l′ q k) s = called-beside u b s c a l l′ q k
-  step-beside e u v b (cutsIn c reached w l card q left r) s = cut-within u b s c reached l card q left r
-  step-beside e u v b (cuts w) s = unfold told in (cut-between u b s)
+  step-beside e u v b (cutWithin c reached w l card q left r) s = cut-within u b s c reached l card q left r
+  step-beside e u v b (cutBetween w) s = unfold told in (cut-between u b s)
 
   pub run-beside : (es : List Event) (u w : World) (b : Book) → Run es u w → Beside u b → Beside w (bookAfter es b)
   unfolding bookAfter

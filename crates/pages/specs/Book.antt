@@ -6,20 +6,21 @@ use mathlib.Core.Bool.{Bool, true, false, cond}
 use mathlib.Core.List.{List, [], _∷_}
 use mathlib.Core.Option.{Option, none, some, Option·getD}
 use Rattle.card.specs.Bytes.{patch, zeros}
-use Rattle.pages.specs.Page.{Page}
+use Rattle.pages.specs.Page.{Page, emptyPage}
 use Rattle.pages.specs.Promise.{Call, start, key, read, write, rescind, snapshot, pageOut, advance, Answer, refused, done, counted, filled, wrote}
-use Rattle.recovery.specs.Step.{Kind, page, directory, trailer, migration, header}
+use Rattle.recovery.specs.Step.{page, directory, trailer, migration, header}
 
 -- a page for each OID; those of the ranges matter
 abbrev pub Table : Type 0
 Table = ℕ → Page
 
+-- what is present now, what the last snapshot marked, if its header is still to be written, and what a start would show
 pub record Book : Type 0 where
   pub present : Table
   pub marked : Option Table
   pub kept : Table
 
--- an event as the book is fed it: a call with its answer; a cut in a call, with whether the header write being made, if any, reached the card; a cut between calls
+-- what the book is fed: a call with its answer; a cut in a call, with whether its header write reached the card; a cut between calls
 pub data Event : Type 0 where
   called : Call → Answer → Event
   cutIn : Call → (reached : Bool) → Event
@@ -27,7 +28,7 @@ pub data Event : Type 0 where
 
 -- format: present and kept all zeros, marked empty
 abbrev pub formatBook : Book
-formatBook = record { present = λ o. record { bytes = zeros; count = 0 }; marked = none; kept = λ o. record { bytes = zeros; count = 0 } }
+formatBook = record { present = λ o. emptyPage; marked = none; kept = λ o. emptyPage }
 
 -- a table with another row
 unfoldable pub update : {A : Type 0} → ℕ → A → (ℕ → A) → ℕ → A
@@ -43,7 +44,7 @@ written at new x = record { bytes = patch (x .bytes) at new; count = x .count }
 abbrev pub rescinded : Page → Page
 rescinded x = record { bytes = zeros; count = suc (x .count) }
 
--- a header write reached the card: kept becomes marked, if it isn't empty
+-- a header write reached the card
 abbrev pub headerReached : Book → Book
 headerReached b = record { present = b .present; marked = none; kept = Option·getD (b .marked) (b .kept) }
 
@@ -66,6 +67,7 @@ isHeader (wrote trailer n) = false
 isHeader (wrote migration n) = false
 isHeader (wrote header n) = true
 
+-- the book after an event
 unfoldable pub told : Event → Book → Book
 told (called (start m) a) b = cond (isDone a) (record { present = b .kept; marked = none; kept = b .kept }) b
 told (called (key o) a) b = b

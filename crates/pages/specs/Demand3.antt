@@ -46,12 +46,14 @@ abbrev pub ReachedIs : Option BlockWrite → List ℕ → Bool → Type 0
 ReachedIs none card reached = reached ≡ false
 ReachedIs (some w) card reached = (Reached w card × (reached ≡ true)) ⊎ ((Reached w card → ⊥) × (reached ≡ false))
 
+-- a call, done or refused, by its own promise; a cut in a call, which leaves its block old, new or torn; a cut between calls
 pub data Step : Event → World → World → Type 0 where
   calls : (c : Call) (a : Answer) (w : World) (l l′ : Lent) → lentTo c w ≡ some l → Kept c l a l′ → Step (called c a) w (record { card = l′ .card; held = some l′ })
-  cutsIn : (c : Call) (reached : Bool) (w : World) (l : Lent) (card : List ℕ) → lentTo c w ≡ some l → Left (outcome c l .write) (w .card) card
+  cutWithin : (c : Call) (reached : Bool) (w : World) (l : Lent) (card : List ℕ) → lentTo c w ≡ some l → Left (outcome c l .write) (w .card) card
       → ReachedIs (outcome c l .write) card reached → Step (cutIn c reached) w (record { card = card; held = none })
-  cuts : (w : World) → Step cut w (record { card = w .card; held = none })
+  cutBetween : (w : World) → Step cut w (record { card = w .card; held = none })
 
+-- a whole list of events
 pub data Run : List Event → World → World → Type 0 where
   ended : (w : World) → Run [] w w
   then : (e : Event) (es : List Event) (u v w : World) → Step e u v → Run es v w → Run (e ∷ es) u w

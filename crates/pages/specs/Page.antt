@@ -16,6 +16,10 @@ pub record Page : Type 0 where
   pub bytes : List ℕ
   pub count : ℕ
 
+-- a page of zeros with count 0, as format leaves it
+abbrev pub emptyPage : Page
+emptyPage = record { bytes = zeros; count = 0 }
+
 -- does the pot say that the page is all zeros?
 abbrev pub flagged : Contents → Address → Bool
 flagged v p = isZero (flagsAt (v (p .pot)) (p .entry))

@@ -6,7 +6,6 @@ use lib.ListN.{length, replicate}
 use mathlib.Core.Bool.{Bool, true, false, cond}
 use mathlib.Core.List.{List, [], _∷_}
 use mathlib.Core.Option.{Option, none, some}
-use Rattle.card.specs.Bytes.{zeros}
 use Rattle.card.specs.Header.{headerBlock}
 use Rattle.card.specs.Question.{Question, ask, firstNo}
 use Rattle.card.specs.Range.{locate}
@@ -98,12 +97,13 @@ plainPageOut t = cond (ltb 0 (length (t .ledger .pending .waiting))) (plainKind 
 
 -- ---- what a call does: its answer, the block that it writes, the tables after it
 
-pub record Does : Type 0 where
+pub record PlainOutcome : Type 0 where
   pub answer : Answer
   pub write : Option BlockWrite
   pub next : Plain
 
-abbrev pub answers : Answer → Plain → Does
+-- an answer, and nothing else
+abbrev pub answers : Answer → Plain → PlainOutcome
 answers a t = record { answer = a; write = none; next = t }
 
 unfoldable pub plainWrite : ℕ → ℕ → List ℕ → Plain → Address → Plain
@@ -120,7 +120,7 @@ plainRescind o t p = record {
   frames = bookChange (rescindFrames (t .frames .present) p) (t .frames);
 }
 
-unfoldable pub plainAdvance : Option Kind → Plain → Does
+unfoldable pub plainAdvance : Option Kind → Plain → PlainOutcome
 plainAdvance none t = answers (refused 20) t
 plainAdvance (some k) t = record {
   answer = wrote k (plainKind k t .block);
@@ -128,7 +128,7 @@ plainAdvance (some k) t = record {
   next = record { rows = t .rows; ledger = advanced (some k) (t .ledger); frames = bookWrote k (t .frames) };
 }
 
-unfoldable pub plainDone : Call → Plain → Does
+unfoldable pub plainDone : Call → Plain → PlainOutcome
 plainDone (start m) t = answers done t
 plainDone (key o) t = answers (counted (t .rows o .page .count)) t
 plainDone (read o n x) t = answers (filled 0 (t .rows o .page .bytes)) t
@@ -138,5 +138,5 @@ plainDone snapshot t = answers done (record { rows = t .rows; ledger = afterSnap
 plainDone pageOut t = record { answer = done; write = some (plainPageOut t); next = record { rows = t .rows; ledger = afterPageOut (t .ledger); frames = t .frames } }
 plainDone advance t = plainAdvance (firstOf (remainingWrites (t .ledger))) t
 
-unfoldable pub plainDoes : Call → Plain → Does
+unfoldable pub plainDoes : Call → Plain → PlainOutcome
 plainDoes c t = cond (eqb (firstNo (plainAsks c t)) 0) (plainDone c t) (answers (refusal c (firstNo (plainAsks c t))) t)

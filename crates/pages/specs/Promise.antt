@@ -24,6 +24,7 @@ use Rattle.recovery.specs.Questions.{startAsks, roomAsks, snapshotAsks, pageOut
 use Rattle.recovery.specs.State.{readFrame}
 use Rattle.recovery.specs.Step.{Kind}
 
+-- the eight calls on a record; format stands apart
 pub data Call : Type 0 where
   start : (memory : List ℕ) → Call
   key : (oid : ℕ) → Call
@@ -103,6 +104,7 @@ frameCall snapshot l = frames.snapshot
 frameCall pageOut l = frames.pageOut
 frameCall advance l = frames.advance
 
+-- what it answers where it is done, and where it is refused
 unfoldable pub doneAnswer : Call → Lent → Answer
 doneAnswer (start m) l = done
 doneAnswer (key o) l = atPlace (refused 9) (addressOf l o) (λ p. counted (presentCount l p))
@@ -148,7 +150,7 @@ pub record FormatKept (area : ℕ) (numbers before : List ℕ) (a : Answer) (car
 -- ---- what the parts of the calls promise
 
 -- a page that a call names: the number of questions 1 to 3, 9 and those that follow it, and, where that is 0, its place and its pot
-pub record Names (l : Lent) (oid : ℕ) (rest : Address → List Question) (r : Named) : Type 0 where
+pub record NamedIs (l : Lent) (oid : ℕ) (rest : Address → List Question) (r : Named) : Type 0 where
   pub refusal-is : r .refusal ≡ firstNo (common l ++ placed (addressOf l oid) rest)
   pub place-is : r .refusal ≡ 0 → addressOf l oid ≡ Located (r .address)
   pub pot-is : r .refusal ≡ 0 → r .pot ≡ presentFrames l (r .address .pot)

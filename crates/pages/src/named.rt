@@ -16,7 +16,7 @@ ghost use Rattle.card.specs.Question.{ask, firstNo};
 ghost use Rattle.card.specs.Pot.{isZero, flagsAt};
 ghost use Rattle.frames.specs.Promise.{lent, commonAsks};
 ghost use Rattle.pages.specs.Page.{pageBytes};
-ghost use Rattle.pages.specs.Promise.{addressOf, presentFrames, presentCount, Names};
+ghost use Rattle.pages.specs.Promise.{addressOf, presentFrames, presentCount, NamedIs};
 ghost use Rattle.card.specs.declared.range.Lookup.the-variants.{Located};
 
 // Where it stands, and its pot's bytes. `refusal` is the number of the question that was answered "no", or 0.
@@ -59,7 +59,7 @@ fn with_pot(s: Store, card: &[u8], memory: &[u8], address: Address) -> Named
 
 // By its OID: 1 to 3, and 9.
 pub fn find(s: Store, card: &[u8], memory: &[u8], oid: u32) -> Named
-    ensures { λ r. ⌜ Names (lent s (now (memory .entry)) (now (card .entry))) oid (λ p. []) r ⌝ }
+    ensures { λ r. ⌜ NamedIs (lent s (now (memory .entry)) (now (card .entry))) oid (λ p. []) r ⌝ }
 {
     let no = question::common(s, memory.len(), card.len());
     if no != 0 {
@@ -74,7 +74,7 @@ pub fn find(s: Store, card: &[u8], memory: &[u8], oid: u32) -> Named
 
 // By its key: 10 too.
 pub fn check(s: Store, card: &[u8], memory: &[u8], oid: u32, count: u32) -> Named
-    ensures { λ r. ⌜ Names (lent s (now (memory .entry)) (now (card .entry))) oid (λ p. ask 10 (eqb (presentCount (lent s (now (memory .entry)) (now (card .entry))) p) count) ∷ []) r ⌝ }
+    ensures { λ r. ⌜ NamedIs (lent s (now (memory .entry)) (now (card .entry))) oid (λ p. ask 10 (eqb (presentCount (lent s (now (memory .entry)) (now (card .entry))) p) count) ∷ []) r ⌝ }
 {
     let n = find(s, card, memory, oid);
     if n.refusal != 0 {

@@ -5,7 +5,6 @@ use lib.Dec.{ltb}
 use lib.ListN.{getD, replicate}
 use mathlib.Core.Bool.{cond}
 use mathlib.Core.List.{List}
-use mathlib.Core.Path.{_≡_}
 use Rattle.card.specs.Block.{blockAt}
 use Rattle.card.specs.Bytes.{tabulate}
 use Rattle.card.specs.Directory.{entriesOf}

@@ -10,8 +10,6 @@ ghost use mathlib.Core.Path.{_≡_};
 ghost use mathlib.Core.Bool.{true};
 ghost use Prim.Native.Nat.{_+_, _≤_};
 ghost use lib.Dec.{leb};
-ghost use Rattle.card.specs.Directory.{entriesOf};
-ghost use Rattle.card.specs.Question.{entriesFit};
 ghost use Rattle.card.specs.Ring.{generationSize};
 ghost use Rattle.record.specs.Holds.{geometryHolds, committedHolds, pendingHolds, currentHolds, sizesHold, tailFor, orderHolds, memoryHolds, countsHold, spansHold, changesHold, holdsTogether};
 

@@ -2,7 +2,7 @@
 use card::number;
 ghost use mathlib.Core.Path.{_≡_};
 ghost use Prim.Native.Nat.{_-_, _≤_, _<_};
-ghost use lib.ListN.{length, getD};
+ghost use lib.ListN.{getD};
 ghost use Rattle.record.specs.Lists.{cells, elem, once, alone, allAlone, within, allWithin, First, Above, Inserted};
 
 // Element i.
