@@ -1,19 +1,21 @@
--- Places of OIDs: all lie among the home blocks, two OIDs have two page blocks, no page block is a pot block; the pots of a card in order.
+-- Places of OIDs: every OID of a range has one, all lie among the home blocks, two OIDs have two page blocks, no page block is a pot block; the pots of a card in order.
 -- Assumes nothing.
 use Prim.Native.Nat.{ℕ, zero, suc, _+_, _-_, _*_, _/_, _≤_, _<_}
-use borrow.Author.Tests.{ltb-true, leb-true}
+use borrow.Author.Tests.{ltb-true, leb-true, lt-ltb, le-leb}
 use lib.Dec.{leb, ltb}
-use mathlib.Core.Bool.{Bool, true, false, cond, _&&_}
+use mathlib.Core.Bool.{Bool, true, false, cond, _&&_, false≢true}
 use mathlib.Core.List.{List, [], _∷_, _++_}
-use mathlib.Core.Logic.{_≢_}
-use mathlib.Core.Path.{_≡_, refl, ap, sym}
+use mathlib.Core.Logic.{_≢_, ⊎-elim}
+use mathlib.Core.Path.{_≡_, refl, ap, sym, _∙_}
+use native.Mathlib.Nat.{eq-or-lt-of-le}
 use native.Mathlib.Omega.{arith}
 use Rattle.card.proofs.AllLaws.{all-join, all-left, all-right, all-tab, tab-all, all-map}
 use Rattle.card.proofs.RangeLaws.{geometry-tells}
-use Rattle.card.proofs.Test.{both}
+use Rattle.card.proofs.Test.{byTest, both, joined}
 use Rattle.card.specs.Bytes.{tabulate, All}
-use Rattle.card.specs.Range.{Range, potCount, rangeBlocks, geometryFits, addressIn, locate, allBlocks, allPots}
+use Rattle.card.specs.Range.{Range, rangeIn, rangesOf, potCount, rangeBlocks, geometryFits, addressIn, locate, allBlocks, allPots}
 use Rattle.card.specs.declared.range.Address.{Address}
+use Rattle.card.specs.declared.range.Lookup.{Lookup}
 use Rattle.card.specs.declared.range.Lookup.the-variants.{Located}
 
 -- ---- where a place lies
@@ -62,6 +64,24 @@ lies (r ∷ rs) start oid p e = go (found r rs start oid p e) (λ q. lies rs (st
 -- among the home blocks of a card that passes question 5
 pub lies-home : (blocks area : ℕ) (rs : List Range) (oid : ℕ) (p : Address) → geometryFits blocks area rs ≡ true → locate rs (1 + area) oid ≡ Located p → Within (1 + area) blocks p
 lies-home blocks area rs oid p g e = rw (geometry-tells blocks area rs g .full) (lies rs (1 + area) oid p e)
+
+-- ---- an OID of a range has a place
+
+located-from : (f : ℕ → Range) (first n start oid i : ℕ) → first ≤ i → i < first + n → f i .oid ≤ oid → oid < f i .oid + f i .pages
+    → (p : Address) × (locate (tabulate f first n) start oid ≡ Located p)
+unfolding tabulate locate
+located-from f first zero start oid i a b l h = absurd (omega arith)
+located-from f first (suc n) start oid i a b l h = byTest (λ (x : Lookup). (p : Address) × (x ≡ Located p)) (leb (f first .oid) oid && ltb oid (f first .oid + f first .pages))
+    (λ t. (addressIn start (oid - f first .oid), refl))
+    (λ t. located-from f (suc first) n (start + rangeBlocks (f first .pages)) oid i (not-first t) (omega arith) l h)
+  where
+    not-first : leb (f first .oid) oid && ltb oid (f first .oid + f first .pages) ≡ false → first < i
+    not-first t = ⊎-elim (λ e. absurd (false≢true (sym t ∙ rw e (joined _ _ (le-leb _ _ l) (lt-ltb _ _ h))))) (λ q. q) (eq-or-lt-of-le a)
+
+pub located : (numbers : List ℕ) (n start oid i : ℕ) → i < n → rangeIn numbers i .oid ≤ oid → oid < rangeIn numbers i .oid + rangeIn numbers i .pages
+    → (p : Address) × (locate (rangesOf numbers n) start oid ≡ Located p)
+unfolding rangesOf
+located numbers n start oid i b l h = located-from (rangeIn numbers) 0 n start oid i (omega arith) (omega arith) l h
 
 -- ---- two OIDs
 

@@ -1,7 +1,7 @@
--- Laws of ranges: loops over them, and what question 5 tells.
+-- Laws of ranges: loops over them, and question 5 both ways.
 -- Assumes nothing.
 use Prim.Native.Nat.{ℕ, _+_, _-_, _*_, _≤_, _<_}
-use borrow.Author.Tests.{leb-true, eqb-true}
+use borrow.Author.Tests.{leb-true, le-leb, eqb-true, eq-eqb}
 use lib.Dec.{leb, ltb, eqb}
 use lib.ListN.{length, getD}
 use mathlib.Core.Bool.{Bool, true, false, _&&_}
@@ -10,7 +10,7 @@ use mathlib.Core.Path.{_≡_, refl, _∙_}
 use native.Mathlib.Omega.{arith}
 use Rattle.card.proofs.BytesLaws.{tab-more}
 use Rattle.card.proofs.HeaderLaws.{FitsRange}
-use Rattle.card.proofs.Test.{both}
+use Rattle.card.proofs.Test.{both, joined}
 use Rattle.card.specs.Bytes.{tabulate, All}
 use Rattle.card.specs.Range.{Range, rangeIn, rangeBlocks, rangesFill, geometryFits, addressIn, locate, allBlocks}
 use Rattle.card.specs.declared.range.Lookup.the-variants.{Located, Outside}
@@ -69,28 +69,31 @@ pub locate-none : (start oid : ℕ) (l : List Range) → l ≡ [] → locate l s
 unfolding locate
 locate-none start oid l e = rw (e, locate)
 
--- ---- what question 5 tells
+-- ---- question 5, both ways
 
-fill-blocks : (low at blocks : ℕ) (rs : List Range) → rangesFill low at blocks rs ≡ true → blocks ≡ at + allBlocks rs
+-- OIDs from low on that rise, do not overlap, and end below 4,294,967,296
+abbrev pub RangesRise : ℕ → List Range → Type 0
+RangesRise low [] = Unit {0}
+RangesRise low (r ∷ rs) = (low ≤ r .oid) × (1 ≤ r .pages) × (r .oid + r .pages ≤ 4294967296) × RangesRise (r .oid + r .pages) rs
+
+fill-tells : (low at blocks : ℕ) (rs : List Range) → rangesFill low at blocks rs ≡ true → (blocks ≡ at + allBlocks rs) × RangesRise low rs
 unfolding rangesFill
-fill-blocks low at blocks [] e = omega (arith, eqb-true at blocks e)
-fill-blocks low at blocks (r ∷ rs) e =
+fill-tells low at blocks [] e = (omega (arith, eqb-true at blocks e), tt)
+fill-tells low at blocks (r ∷ rs) e =
     let a = both (leb low (r .oid)) _ e in
     let b = both (leb 1 (r .pages)) _ (a .1) in
     let c = both (leb (r .oid + r .pages) 4294967296) _ (b .1) in
-    omega (arith, fill-blocks (r .oid + r .pages) (at + rangeBlocks (r .pages)) blocks rs (c .1))
+    let more = fill-tells (r .oid + r .pages) (at + rangeBlocks (r .pages)) blocks rs (c .1) in
+    (omega (arith, more .0), (leb-true _ _ (a .0), leb-true _ _ (b .0), leb-true _ _ (c .0), more .1))
 
-fill-fits : (low at blocks : ℕ) (rs : List Range) → rangesFill low at blocks rs ≡ true → blocks ≤ 65536 → All FitsRange rs
+ranges-fill : (low at blocks : ℕ) (rs : List Range) → blocks ≡ at + allBlocks rs → RangesRise low rs → rangesFill low at blocks rs ≡ true
 unfolding rangesFill
-fill-fits low at blocks [] e small = tt
-fill-fits low at blocks (r ∷ rs) e small =
-    let a = both (leb low (r .oid)) _ e in
-    let b = both (leb 1 (r .pages)) _ (a .1) in
-    let c = both (leb (r .oid + r .pages) 4294967296) _ (b .1) in
-    let full = fill-blocks (r .oid + r .pages) (at + rangeBlocks (r .pages)) blocks rs (c .1) in
-    let pages : 1 ≤ r .pages = leb-true _ _ (b .0) in
-    let end : r .oid + r .pages ≤ 4294967296 = leb-true _ _ (c .0) in
-    ((omega arith, omega arith), fill-fits (r .oid + r .pages) (at + rangeBlocks (r .pages)) blocks rs (c .1) small)
+ranges-fill low at blocks [] e h = eq-eqb at blocks (omega (arith, e))
+ranges-fill low at blocks (r ∷ rs) e h =
+    joined (leb low (r .oid)) _ (le-leb _ _ (h .0))
+    (joined (leb 1 (r .pages)) _ (le-leb _ _ (h .1))
+    (joined (leb (r .oid + r .pages) 4294967296) _ (le-leb _ _ (h .2))
+    (ranges-fill (r .oid + r .pages) (at + rangeBlocks (r .pages)) blocks rs (omega (arith, e)) (h .3))))
 
 -- the card's blocks are the header, the area and the ranges
 pub record Geometry (blocks area : ℕ) (rs : List Range) : Type 0 where
@@ -99,28 +102,42 @@ pub record Geometry (blocks area : ℕ) (rs : List Range) : Type 0 where
   pub some : 1 ≤ length rs
   pub few : length rs ≤ 8
   pub full : blocks ≡ 1 + area + allBlocks rs
+  pub rise : RangesRise 0 rs
 
-pub geometry-tells : (blocks area : ℕ) (rs : List Range) → geometryFits blocks area rs ≡ true → Geometry blocks area rs
-unfolding geometryFits
-geometry-tells blocks area rs e =
-    let a = both (leb 8 area) _ e in
-    let b = both (leb area 512) _ (a .1) in
-    let c = both (leb 1 (length rs)) _ (b .1) in
-    let d = both (leb (length rs) 8) _ (c .1) in
-    record {
-      area-low = leb-true _ _ (a .0);
-      area-high = leb-true _ _ (b .0);
-      some = leb-true _ _ (c .0);
-      few = leb-true _ _ (d .0);
-      full = fill-blocks 0 (1 + area) blocks rs (d .1);
-    }
+-- these facts are all of question 5
+module _ (blocks area : ℕ) (rs : List Range) where
+  pub geometry-tells : geometryFits blocks area rs ≡ true → Geometry blocks area rs
+  unfolding geometryFits
+  geometry-tells e =
+      let a = both (leb 8 area) _ e in
+      let b = both (leb area 512) _ (a .1) in
+      let c = both (leb 1 (length rs)) _ (b .1) in
+      let d = both (leb (length rs) 8) _ (c .1) in
+      let fill = fill-tells 0 (1 + area) blocks rs (d .1) in
+      record {
+        area-low = leb-true _ _ (a .0);
+        area-high = leb-true _ _ (b .0);
+        some = leb-true _ _ (c .0);
+        few = leb-true _ _ (d .0);
+        full = fill .0;
+        rise = fill .1;
+      }
+
+  pub geometry-fits : Geometry blocks area rs → geometryFits blocks area rs ≡ true
+  unfolding geometryFits
+  geometry-fits g =
+      joined (leb 8 area) _ (le-leb _ _ (g .area-low))
+      (joined (leb area 512) _ (le-leb _ _ (g .area-high))
+      (joined (leb 1 (length rs)) _ (le-leb _ _ (g .some))
+      (joined (leb (length rs) 8) _ (le-leb _ _ (g .few))
+      (ranges-fill 0 (1 + area) blocks rs (g .full) (g .rise)))))
 
 -- what a header says of ranges that pass fits 32 bits
+rise-fits : (low : ℕ) (rs : List Range) → RangesRise low rs → allBlocks rs ≤ 65536 → All FitsRange rs
+rise-fits low [] h small = tt
+rise-fits low (r ∷ rs) h small = ((omega (arith, h .1, h .2), omega arith), rise-fits (r .oid + r .pages) rs (h .3) (omega arith))
+
 pub geometry-numbers : (blocks area : ℕ) (rs : List Range) → geometryFits blocks area rs ≡ true → blocks ≤ 65536 → All FitsRange rs
-unfolding geometryFits
 geometry-numbers blocks area rs e small =
-    let a = both (leb 8 area) _ e in
-    let b = both (leb area 512) _ (a .1) in
-    let c = both (leb 1 (length rs)) _ (b .1) in
-    let d = both (leb (length rs) 8) _ (c .1) in
-    fill-fits 0 (1 + area) blocks rs (d .1) small
+    let g = geometry-tells blocks area rs e in
+    rise-fits 0 rs (g .rise) (omega (arith, g .full))

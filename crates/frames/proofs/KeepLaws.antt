@@ -1,4 +1,4 @@
--- How a call keeps its promise: refused, or done.
+-- How a call keeps its promise, refused or done, and what a kept promise tells.
 -- Assumes nothing.
 use Prim.Native.Nat.{ℕ}
 use borrow.Author.Tests.{eq-eqb, ne-eqb}
@@ -49,6 +49,15 @@ module _ {A : Type 0} (n : ℕ) (finished refusal : A) (write : Option BlockWrit
         sound-is = λ q. sound;
         long = long;
       }
+
+  -- ---- what a kept promise tells
+
+  module _ {back l l′ : Lent} {a : A} (k : Keeps (outcomeOf n finished refusal write next) back l a l′) where
+    pub done-tells : n ≡ 0 → (a ≡ finished) × (l′ .card ≡ putDown write (l .card))
+    done-tells e = let o = outcome-done e in (k .answer-is ∙ o .0, k .card-is ∙ ap (λ (w : Option BlockWrite). putDown w (l .card)) (o .1))
+
+    pub refused-tells : n ≢ 0 → (a ≡ refusal) × (l′ ≡ back)
+    refused-tells z = (k .answer-is ∙ outcome-refused z .0, k .refusal-is (omega (arith, z)))
 
 -- ---- the frame layer's calls
 

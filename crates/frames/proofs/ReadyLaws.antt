@@ -7,7 +7,7 @@ use lib.ListN.{length}
 use mathlib.Core.Bool.{Bool, true, false, _&&_}
 use mathlib.Core.List.{List, [], _++_}
 use mathlib.Core.Logic.{_≢_, ⊎-elim}
-use mathlib.Core.Path.{_≡_, refl, sym}
+use mathlib.Core.Path.{_≡_, refl, ap, sym}
 use native.Mathlib.Omega.{arith}
 use Rattle.card.proofs.CheckpointLaws.{whole-tells}
 use Rattle.card.proofs.QuestionLaws.{passed-both, group-yes, group-no, groups-passed}
@@ -17,11 +17,11 @@ use Rattle.card.specs.Block.{whole}
 use Rattle.card.specs.Bytes.{All}
 use Rattle.card.specs.Question.{Question, firstNo}
 use Rattle.card.specs.Ring.{ringAt}
-use Rattle.frames.specs.Promise.{commonAsks}
+use Rattle.frames.specs.Promise.{Lent, commonAsks, common}
 use Rattle.frames.specs.Parts.{Writable}
 use Rattle.record.proofs.Held.{Held, held, bounds}
 use Rattle.record.specs.Holds.{holdsTogether}
-use Rattle.record.specs.Meaning.{sizeOf, committedSizeOf, pendingFirst, currentFirst}
+use Rattle.record.specs.Meaning.{zeroStore, sizeOf, committedSizeOf, pendingFirst, currentFirst}
 use Rattle.record.specs.declared.store.Store.{Store}
 use Rattle.recovery.specs.Questions.{heldAsks}
 
@@ -58,6 +58,14 @@ ready s memory card h =
     let m = said-tells 4 64 memory (s .frames) (a .0) in
     let c = said-tells 11 65536 card (s .geometry .blocks) (d .0) in
     record { together = b .0; memory-is = m .0; frames-low = m .1; frames-high = m .2; card-is = c .0; blocks-high = c .2 }
+
+-- a record that passes question 1 has memory frames, the record of zeros has none
+pub has-frames : (l : Lent) → firstNo (common l) ≡ 0 → 0 < l .store .frames
+has-frames l h = omega (arith, ready (l .store) (length (l .memory)) (length (l .card)) h .frames-low)
+
+pub no-zeros : (s : Store) → 0 < s .frames → s ≡ zeroStore → ⊥
+unfolding zeroStore
+no-zeros s h z = omega (arith, h, ap (λ (t : Store). t .frames) z)
 
 -- a call's own questions are asked after these
 common-numbered : (s : Store) (memory card : ℕ) → All (λ (q : Question). 0 < q .number) (commonAsks s memory card)

@@ -17,13 +17,12 @@ use Rattle.card.specs.Block.{whole}
 use Rattle.card.specs.Bytes.{All}
 use Rattle.card.specs.Question.{Question, firstNo}
 use Rattle.card.specs.Range.{Range}
-use Rattle.frames.proofs.KeepLaws.{outcome-done, outcome-refused}
-use Rattle.frames.proofs.ReadyLaws.{whole-said, ready, common-both}
+use Rattle.frames.proofs.KeepLaws.{outcome-done, outcome-refused, done-tells, refused-tells}
+use Rattle.frames.proofs.ReadyLaws.{whole-said, has-frames, no-zeros, common-both}
 use Rattle.frames.specs.Promise.{Lent, meaningOf, common, FrameCall, start, change, snapshot, pageOut, advance, FrameAnswer, refused, asks, advanceAnswer, advanceWrite, advanced, doneAnswer, doneWrite, after, outcome, handedBack, FrameKept}
 use Rattle.frames.proofs.Run.{told, CutBook, Asked}
 use Rattle.record.specs.Holds.{holdsTogether}
 use Rattle.record.specs.Meaning.{zeroStore}
-use Rattle.record.specs.declared.store.Store.{Store}
 use Rattle.recovery.proofs.Follows.{Stored, Follows, follows-stored, follows-card}
 use Rattle.recovery.proofs.FollowsStep.{follows-change, follows-snapshot, follows-advance, follows-out}
 use Rattle.recovery.proofs.FrameTheorem.{stored-start, cut-out, cut-advance}
@@ -36,9 +35,7 @@ use Rattle.recovery.specs.Write.{BlockWrite, putDown, Left}
 -- ---- a call that is done
 
 pub done-keeps : (c : FrameCall) (l l′ : Lent) (a : FrameAnswer) → FrameKept c l a l′ → firstNo (asks c l) ≡ 0 → (a ≡ doneAnswer c l) × (l′ .card ≡ putDown (doneWrite c l) (l .card))
-done-keeps c l l′ a p e =
-    let d = outcome-done (firstNo (asks c l)) (doneAnswer c l) (refused (firstNo (asks c l))) (doneWrite c l) (after c l) e in
-    (p .answer-is ∙ d .0, p .card-is ∙ ap (λ (w : Option BlockWrite). putDown w (l .card)) (d .1))
+done-keeps c l l′ a p e = done-tells (firstNo (asks c l)) (doneAnswer c l) (refused (firstNo (asks c l))) (doneWrite c l) (after c l) p e
 
 -- a refused call is no news to the book
 told-refused : (c : FrameCall) (n : ℕ) (b : FrameBook) → told c (refused n) b ≡ b
@@ -51,12 +48,8 @@ told-refused advance n b = refl
 
 -- ---- questions 1 to 3
 
--- the record of zeros has no memory frame, and question 1 wants four
 zeros-refused : (l : Lent) → l .store ≡ zeroStore → firstNo (common l) ≡ 0 → ⊥
-unfolding zeroStore
-zeros-refused l z h =
-    let r = ready (l .store) (length (l .memory)) (length (l .card)) h in
-    omega (arith, r .frames-low, ap (λ (s : Store). s .frames) z)
+zeros-refused l z h = no-zeros (l .store) (has-frames l h) z
 
 -- question 1: whole memory frames, as many as are said
 abbrev pub MemorySaid : ℕ → ℕ → Type 0
@@ -241,9 +234,8 @@ module _ (blocks area : ℕ) (ranges : List Range) where
           go : (n : ℕ) → firstNo (asks c l) ≡ n → Standing blocks area ranges l′ (told c a b)
           go zero e = live (done-follows asked l′ a p e) (done-common asked l′ a p e)
           go (suc k) e =
-              let z : firstNo (asks c l) ≢ 0 = λ q. omega (arith, e, q) in
-              let a-is : a ≡ refused (suc k) = p .answer-is ∙ outcome-refused _ (doneAnswer c l) (refused (firstNo (asks c l))) (doneWrite c l) (after c l) z .0 ∙ ap refused e in
-              rw (a-is, told-refused c (suc k) b, p .refusal-is (omega (arith, e))) (lent-back c o)
+              let r = refused-tells (firstNo (asks c l)) (doneAnswer c l) (refused (firstNo (asks c l))) (doneWrite c l) (after c l) p (λ q. omega (arith, e, q)) in
+              rw (r .0, told-refused c (firstNo (asks c l)) b, r .1) (lent-back c o)
 
       pub cut-ok : (c′ : List ℕ) (b′ : FrameBook) → Left (outcome c l .write) (l .card) c′ → CutBook (outcome c l .write) c′ b b′ → Stored blocks area ranges c′ (b′ .kept)
       cut-ok c′ b′ left cut = go (firstNo (asks c l)) refl

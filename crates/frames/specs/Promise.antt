@@ -52,7 +52,8 @@ pub record Outcome (A : Type 0) : Type 0 where
 abbrev pub outcomeOf : {A : Type 0} → ℕ → A → A → Option BlockWrite → State → Outcome A
 outcomeOf n finished refusal write next = record { number = n; answer = cond (eqb n 0) finished refusal; write = cond (eqb n 0) write none; after = next }
 
--- of a call that was lent l, answers a and leaves l′; refused, it leaves `back`
+-- of a call that was lent l, answers a and leaves l′; refused, it leaves `back`. Done, free is only the record's form, which memory frame holds which waiting page, and
+-- the bytes of memory frames in which none waits: each waiting page has a memory frame apiece, which the record tells (recovery's Seated)
 pub record Keeps {A : Type 0} (o : Outcome A) (back l : Lent) (a : A) (l′ : Lent) : Type 0 where
   pub answer-is : a ≡ o .answer
   pub card-is : l′ .card ≡ putDown (o .write) (l .card)

@@ -1,7 +1,7 @@
-// Items k and l of document 01's lane tables, the directory of its whole run, its two restarts, and a refusal of each number with the call that gave it: a line each.
-mod day;
+// What document 01's lane tables leave to a program, cards of two ranges, and a refusal of each number with the call that gave it: a line each.
 mod item;
 mod refusal;
+mod whole_run;
 
 use libc::STDOUT_FILENO;
 
@@ -36,7 +36,7 @@ fn refused_by_form() {
     line(b"format", refusal::small_area());
     line(b"start", refusal::trailer_without_commit());
     line(b"start", refusal::trailer_of_other_commit());
-    line(b"start", refusal::directory_of_header());
+    line(b"start", refusal::entry_of_header());
 }
 
 // 9 to 15: keys, pages and room.
@@ -59,16 +59,33 @@ fn refused_by_state() {
     line(b"advance", refusal::none_due());
 }
 
+// Ranges: two that fill the card, two that touch, out of order, overlapping, with a block left over; then OIDs of the second, between them, above them.
+fn two_ranges() {
+    line(b"format two ranges", item::formatted(&[100, 1, 200, 1]));
+    line(b"format touching", item::formatted(&[100, 1, 101, 1]));
+    line(b"format out of order", item::formatted(&[200, 1, 100, 1]));
+    line(b"format overlapping", item::formatted(&[100, 1, 100, 1]));
+    line(b"format block left over", item::formatted(&[100, 1]));
+    line(
+        b"format number left over",
+        item::formatted(&[100, 1, 200, 1, 300]),
+    );
+    line(b"write 200", item::of_two_ranges(200));
+    line(b"write 150", item::of_two_ranges(150));
+    line(b"write 201", item::of_two_ranges(201));
+}
+
 fn main() {
     line(b"k first write", item::first_write());
     line(b"k second write", item::second_write());
     line(b"l 511 length 1", item::write_at(511, b"a"));
     line(b"l 511 length 2", item::write_at(511, b"ab"));
     line(b"l 512 length 0", item::write_at(512, b""));
-    pair(b"directory", item::first_frame(), item::first_block());
-    pair(b"directory", item::second_frame(), item::second_block());
+    pair(b"directory", item::number_at(1536), item::number_at(1540));
+    pair(b"directory", item::number_at(1544), item::number_at(1548));
     line(b"restart after T 4", item::restarted(4));
     line(b"restart after H 0", item::restarted(5));
+    two_ranges();
     refused_by_form();
     refused_by_page();
     refused_by_state();

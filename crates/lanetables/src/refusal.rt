@@ -1,9 +1,16 @@
 // A case for each number: what the call answers.
-use super::day;
+use super::item;
+use super::whole_run;
 use card::number;
 use frames::answer::Advance;
 use pages::answer::Count;
 use record::store::Store;
+
+// What a start answers of a card.
+fn started(card: &[u8]) -> u32 {
+    let d = pages::start::start(card, &[0u8; 2048]);
+    d.answer
+}
 
 // 1
 pub fn memory_of_three() -> u32 {
@@ -18,7 +25,7 @@ pub fn memory_of_three() -> u32 {
 pub fn record_apart() -> u32 {
     let mut card = [0u8; 5632];
     let memory = [0u8; 2048];
-    let mut s = day::begin(&mut card, &memory);
+    let mut s = whole_run::begin(&mut card, &memory, 8, 1);
     s.migrated = 1;
     let d = pages::snapshot::snapshot(s, &card, &memory);
     d.answer
@@ -26,14 +33,12 @@ pub fn record_apart() -> u32 {
 
 // 3
 pub fn card_of_ten() -> u32 {
-    let d = pages::start::start(&[0u8; 5120], &[0u8; 2048]);
-    d.answer
+    started(&[0u8; 5120])
 }
 
 // 4
 pub fn no_layout() -> u32 {
-    let d = pages::start::start(&[0u8; 5632], &[0u8; 2048]);
-    d.answer
+    started(&[0u8; 5632])
 }
 
 // 5
@@ -42,16 +47,10 @@ pub fn small_area() -> u32 {
     pages::format::format(&mut card, 7, &[100, 2])
 }
 
-// What a start answers of a card.
-fn started(card: &[u8]) -> u32 {
-    let d = pages::start::start(card, &[0u8; 2048]);
-    d.answer
-}
-
 // 6
 pub fn trailer_without_commit() -> u32 {
     let mut card = [0u8; 5632];
-    day::begin(&mut card, &[0u8; 2048]);
+    whole_run::begin(&mut card, &[0u8; 2048], 8, 1);
     card[8] = 3;
     started(&card)
 }
@@ -60,16 +59,16 @@ pub fn trailer_without_commit() -> u32 {
 pub fn trailer_of_other_commit() -> u32 {
     let mut card = [0u8; 5632];
     let mut memory = [0u8; 2048];
-    day::run(&mut card, &mut memory, 5);
+    whole_run::run(&mut card, &mut memory, 5);
     card[2544] = 2;
     started(&card)
 }
 
 // 8
-pub fn directory_of_header() -> u32 {
+pub fn entry_of_header() -> u32 {
     let mut card = [0u8; 5632];
     let mut memory = [0u8; 2048];
-    day::run(&mut card, &mut memory, 5);
+    whole_run::run(&mut card, &mut memory, 5);
     card[1536] = 0;
     started(&card)
 }
@@ -85,7 +84,7 @@ fn number_of_count(c: Count) -> u32 {
 pub fn no_such_page() -> u32 {
     let mut card = [0u8; 5632];
     let memory = [0u8; 2048];
-    let s = day::begin(&mut card, &memory);
+    let s = whole_run::begin(&mut card, &memory, 8, 1);
     let d = pages::key::key(s, &card, &memory, 101);
     let a = d.answer;
     number_of_count(a)
@@ -95,7 +94,7 @@ pub fn no_such_page() -> u32 {
 pub fn old_key() -> u32 {
     let mut card = [0u8; 5632];
     let memory = [0u8; 2048];
-    let s = day::begin(&mut card, &memory);
+    let s = whole_run::begin(&mut card, &memory, 8, 1);
     let mut page = [0u8; 512];
     let d = pages::read::read(s, &card, &memory, 100, 1, &mut page);
     d.answer
@@ -103,19 +102,15 @@ pub fn old_key() -> u32 {
 
 // 11
 pub fn past_the_end() -> u32 {
-    let mut card = [0u8; 5632];
-    let mut memory = [0u8; 2048];
-    let s = day::begin(&mut card, &memory);
-    let d = pages::write::write(s, &card, &mut memory, 100, 0, 511, &[7, 7]);
-    d.answer
+    item::write_at(511, b"ab")
 }
 
 // 13: committed 4, pending 3 and current 3 blocks are more than 8
 pub fn three_generations() -> u32 {
     let mut card = [0u8; 5632];
     let mut memory = [0u8; 2048];
-    let s = day::run(&mut card, &mut memory, 7);
-    let t = day::mark(s, &card, &mut memory);
+    let s = whole_run::run(&mut card, &mut memory, 7);
+    let t = whole_run::write_and_mark(s, &card, &mut memory);
     let d = pages::write::write(t, &card, &mut memory, 100, 0, 0, &[8]);
     d.answer
 }
@@ -125,18 +120,11 @@ fn write_page(s: Store, card: &[u8], memory: &mut [u8], oid: u32) -> Store {
     d.store
 }
 
-// A card of 23 blocks with an area of 16 and five pages, formatted and started.
-fn begin_five(card: &mut [u8], memory: &[u8]) -> Store {
-    pages::format::format(card, 16, &[100, 5]);
-    let d = pages::start::start(card, memory);
-    d.store
-}
-
 // 14: three pages and their pot wait in four frames
 pub fn memory_full() -> u32 {
     let mut card = [0u8; 11776];
     let mut memory = [0u8; 2048];
-    let s = begin_five(&mut card, &memory);
+    let s = whole_run::begin(&mut card, &memory, 16, 5);
     let t = write_page(s, &card, &mut memory, 100);
     let u = write_page(t, &card, &mut memory, 101);
     let v = write_page(u, &card, &mut memory, 102);
@@ -148,7 +136,7 @@ pub fn memory_full() -> u32 {
 pub fn last_count() -> u32 {
     let mut card = [0u8; 5632];
     let mut memory = [0u8; 2048];
-    day::begin(&mut card, &memory);
+    whole_run::begin(&mut card, &memory, 8, 1);
     number::put_u32(&mut card, 4608, 4294967295);
     let d = pages::start::start(&card, &memory);
     let e = pages::rescind::rescind(d.store, &card, &mut memory, 100, 4294967295);
@@ -159,7 +147,7 @@ pub fn last_count() -> u32 {
 pub fn one_pending() -> u32 {
     let mut card = [0u8; 5632];
     let mut memory = [0u8; 2048];
-    let s = day::run(&mut card, &mut memory, 0);
+    let s = whole_run::run(&mut card, &mut memory, 0);
     let d = pages::snapshot::snapshot(s, &card, &memory);
     d.answer
 }
@@ -168,7 +156,7 @@ pub fn one_pending() -> u32 {
 pub fn nothing_changed() -> u32 {
     let mut card = [0u8; 5632];
     let memory = [0u8; 2048];
-    let s = day::begin(&mut card, &memory);
+    let s = whole_run::begin(&mut card, &memory, 8, 1);
     let d = pages::snapshot::snapshot(s, &card, &memory);
     d.answer
 }
@@ -177,7 +165,7 @@ pub fn nothing_changed() -> u32 {
 pub fn last_commit() -> u32 {
     let mut card = [0u8; 5632];
     let mut memory = [0u8; 2048];
-    day::run(&mut card, &mut memory, 5);
+    whole_run::run(&mut card, &mut memory, 5);
     number::put_u32(&mut card, 4, 4294967295);
     number::put_u32(&mut card, 2544, 4294967295);
     let d = pages::start::start(&card, &memory);
@@ -190,7 +178,7 @@ pub fn last_commit() -> u32 {
 pub fn none_waits() -> u32 {
     let mut card = [0u8; 5632];
     let memory = [0u8; 2048];
-    let s = day::begin(&mut card, &memory);
+    let s = whole_run::begin(&mut card, &memory, 8, 1);
     let d = pages::page_out::page_out(s, &mut card, &memory);
     d.answer
 }
@@ -210,7 +198,7 @@ fn number_of_advance(a: Advance) -> u32 {
 pub fn none_due() -> u32 {
     let mut card = [0u8; 5632];
     let memory = [0u8; 2048];
-    let s = day::begin(&mut card, &memory);
+    let s = whole_run::begin(&mut card, &memory, 8, 1);
     let d = pages::advance::advance(s, &mut card, &memory);
     let a = d.answer;
     number_of_advance(a)

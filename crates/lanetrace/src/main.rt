@@ -29,10 +29,10 @@ fn advance_all(s: Store, card: &mut [u8], memory: &[u8]) {
         let r = pages::advance::advance(t, card, memory);
         t = r.store;
         let a = r.answer;
-        turns -= 1;
         if !print_advance(a) {
-            turns = 0;
+            return;
         }
+        turns -= 1;
     }
 }
 

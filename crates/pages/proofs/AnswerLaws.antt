@@ -1,13 +1,13 @@
 -- What a call answers by its first "no", and its promise beside that of the frame call that it comes to.
 -- Assumes nothing.
-use Prim.Native.Nat.{ℕ, _+_, _-_}
-use borrow.Author.Tests.{eq-eqb}
+use Prim.Native.Nat.{ℕ, _+_, _-_, _≤_, _<_}
+use borrow.Author.Tests.{eq-eqb, eqb-true, leb-true, ltb-true}
 use lib.Dec.{leb, ltb, eqb}
 use lib.ListN.{length}
 use mathlib.Core.Bool.{Bool, true, false, cond}
 use mathlib.Core.List.{List, [], _∷_, _++_}
 use mathlib.Core.Logic.{_≢_}
-use mathlib.Core.Option.{Option, none}
+use mathlib.Core.Option.{none}
 use mathlib.Core.Path.{_≡_, refl, ap, sym, _∙_, subst}
 use native.Mathlib.Omega.{arith}
 use Rattle.card.proofs.QuestionLaws.{none-asked, asked-no, passed-both}
@@ -15,7 +15,7 @@ use Rattle.card.specs.Question.{Question, ask, firstNo}
 use Rattle.card.specs.declared.range.Address.{Address}
 use Rattle.card.specs.declared.range.Lookup.{Lookup}
 use Rattle.card.specs.declared.range.Lookup.the-variants.{Located, Outside}
-use Rattle.frames.proofs.KeepLaws.{outcome-done, outcome-refused, keeps-refused, keeps-done, back-card, back-memory}
+use Rattle.frames.proofs.KeepLaws.{outcome-done, outcome-refused, keeps-refused, keeps-done, done-tells, refused-tells, back-card, back-memory}
 use Rattle.frames.proofs.ReadyLaws.{common-passed, common-both}
 use Rattle.frames.specs.Promise.{Lent, meaningOf, common, FrameAnswer, FrameKept}
 use Rattle.pages.specs.Promise.{Call, start, key, read, write, rescind, snapshot, pageOut, advance, Answer, answered, addressOf, atPlace, presentCount, writeChanges, rescindChanges, placed, asks, frameCall, doneAnswer, refusal, outcome, Kept}
@@ -24,11 +24,12 @@ use Rattle.recovery.specs.Contents.{FrameBytes}
 use Rattle.recovery.specs.Questions.{newPlaces, roomAsks, snapshotAsks, pageOutAsks, advanceAsks}
 use Rattle.recovery.specs.State.{State, places}
 use Rattle.recovery.specs.Step.{changeFrames, afterChange}
-use Rattle.recovery.specs.Write.{BlockWrite, putDown}
+use Rattle.recovery.specs.Write.{putDown}
 use Rattle.frames.specs.Promise as frames
 
--- ---- the questions that every call but start is asked first
+-- ---- questions 1 to 3, which every call but start is asked first
 
+-- every call but start
 abbrev pub Later : Call → Type 0
 Later (start m) = ⊥
 Later (key o) = Unit {0}
@@ -39,7 +40,7 @@ Later snapshot = Unit {0}
 Later pageOut = Unit {0}
 Later advance = Unit {0}
 
--- and what it is asked after them
+-- what it is asked after 1 to 3
 unfoldable pub ownAsks : Call → Lent → List Question
 ownAsks (start m) l = []
 ownAsks (key o) l = placed (addressOf l o) (λ p. [])
@@ -50,7 +51,7 @@ ownAsks snapshot l = snapshotAsks (meaningOf l)
 ownAsks pageOut l = pageOutAsks (meaningOf l)
 ownAsks advance l = advanceAsks (meaningOf l)
 
-pub asks-are : (c : Call) (l : Lent) → Later c → asks c l ≡ common l ++ ownAsks c l
+asks-are : (c : Call) (l : Lent) → Later c → asks c l ≡ common l ++ ownAsks c l
 unfolding asks ownAsks
 asks-are (start m) l k = absurd k
 asks-are (key o) l k = refl
@@ -73,6 +74,37 @@ unfolding atPlace
 found-place Outside rest e = absurd (omega (arith, sym (asked-no 9 false [] refl), e))
 found-place (Located p) rest e = (p, refl, e)
 
+-- a write or a rescind that passes: its place, whose count is n, and room for its frames
+pub record WritePassed (l : Lent) (o n at : ℕ) (new : List ℕ) : Type 0 where
+  pub place : Address
+  pub place-is : addressOf l o ≡ Located place
+  pub count-is : presentCount l place ≡ n
+  pub short : at + length new ≤ 512
+  pub room : firstNo (roomAsks (writeChanges l at new place) (meaningOf l)) ≡ 0
+
+pub record RescindPassed (l : Lent) (o n : ℕ) : Type 0 where
+  pub place : Address
+  pub place-is : addressOf l o ≡ Located place
+  pub count-is : presentCount l place ≡ n
+  pub few : n < 4294967295
+  pub room : firstNo (roomAsks (rescindChanges l place) (meaningOf l)) ≡ 0
+
+pub write-passed : (l : Lent) (o n at : ℕ) (new : List ℕ) → firstNo (ownAsks (write o n at new) l) ≡ 0 → WritePassed l o n at new
+unfolding ownAsks
+write-passed l o n at new e =
+    let f = found-place (addressOf l o) _ e in
+    let count = passed-both 9 (eqb (presentCount l (f .0)) n) _ (f .2) in
+    let short = passed-both 10 (leb (at + length new) 512) _ (count .1) in
+    record { place = f .0; place-is = f .1; count-is = eqb-true _ _ (count .0); short = leb-true _ _ (short .0); room = short .1 }
+
+pub rescind-passed : (l : Lent) (o n : ℕ) → firstNo (ownAsks (rescind o n) l) ≡ 0 → RescindPassed l o n
+unfolding ownAsks
+rescind-passed l o n e =
+    let f = found-place (addressOf l o) _ e in
+    let count = passed-both 9 (eqb (presentCount l (f .0)) n) _ (f .2) in
+    let few = passed-both 14 (ltb n 4294967295) _ (count .1) in
+    record { place = f .0; place-is = f .1; count-is = eqb-true _ _ (count .0); few = ltb-true _ _ (few .0); room = few .1 }
+
 -- ---- the frame call that a call comes to
 
 pub change-none : (s : State) → (firstNo (roomAsks [] s) ≡ 0) × (afterChange [] s ≡ s)
@@ -86,20 +118,18 @@ module _ (l : Lent) where
   change-asked ws h r = common-passed (l .store) (length (l .memory)) (length (l .card)) (roomAsks ws (meaningOf l)) h ∙ r
 
   pub frames-asked : (c : Call) → firstNo (asks c l) ≡ 0 → firstNo (frames.asks (frameCall c l) l) ≡ 0
-  unfolding frameCall ownAsks atPlace
+  unfolding frameCall atPlace
   frames-asked (start m) e = unfold asks frames.asks in e
   frames-asked (key o) e = change-asked [] (asked-both (key o) l tt e .0) (change-none (meaningOf l) .0)
   frames-asked (read o n x) e = change-asked [] (asked-both (read o n x) l tt e .0) (change-none (meaningOf l) .0)
   frames-asked (write o n at new) e =
       let q = asked-both (write o n at new) l tt e in
-      let f = found-place (addressOf l o) _ (q .1) in
-      let r = passed-both 10 (leb (at + length new) 512) _ (passed-both 9 (eqb (presentCount l (f .0)) n) _ (f .2) .1) .1 in
-      rw (f .1) (change-asked (writeChanges l at new (f .0)) (q .0) r)
+      let f = write-passed l o n at new (q .1) in
+      rw (f .place-is) (change-asked (writeChanges l at new (f .place)) (q .0) (f .room))
   frames-asked (rescind o n) e =
       let q = asked-both (rescind o n) l tt e in
-      let f = found-place (addressOf l o) _ (q .1) in
-      let r = passed-both 14 (ltb n 4294967295) _ (passed-both 9 (eqb (presentCount l (f .0)) n) _ (f .2) .1) .1 in
-      rw (f .1) (change-asked (rescindChanges l (f .0)) (q .0) r)
+      let f = rescind-passed l o n (q .1) in
+      rw (f .place-is) (change-asked (rescindChanges l (f .place)) (q .0) (f .room))
   frames-asked snapshot e = unfold asks frames.asks in e
   frames-asked pageOut e = unfold asks frames.asks in e
   frames-asked advance e = unfold asks frames.asks in e
@@ -115,16 +145,10 @@ module _ (c : Call) (l : Lent) where
 
   module _ (l′ : Lent) (a : Answer) (k : Kept c l a l′) where
     pub kept-done : firstNo (asks c l) ≡ 0 → (a ≡ doneAnswer c l) × (l′ .card ≡ putDown (frames.doneWrite (frameCall c l) l) (l .card))
-    kept-done e = (
-      k .answer-is ∙ outcome-done _ (doneAnswer c l) (refusal c (firstNo (asks c l))) (frames.doneWrite (frameCall c l) l) (frames.after (frameCall c l) l) e .0,
-      k .card-is ∙ ap (λ (w : Option BlockWrite). putDown w (l .card)) (block-done e),
-    )
+    kept-done e = done-tells _ (doneAnswer c l) (refusal c (firstNo (asks c l))) (frames.doneWrite (frameCall c l) l) (frames.after (frameCall c l) l) k e
 
     pub kept-refused : firstNo (asks c l) ≢ 0 → (a ≡ refusal c (firstNo (asks c l))) × (l′ ≡ frames.handedBack (frameCall c l) l)
-    kept-refused z = (
-      k .answer-is ∙ outcome-refused _ (doneAnswer c l) (refusal c (firstNo (asks c l))) (frames.doneWrite (frameCall c l) l) (frames.after (frameCall c l) l) z .0,
-      k .refusal-is (omega (arith, z)),
-    )
+    kept-refused z = refused-tells _ (doneAnswer c l) (refusal c (firstNo (asks c l))) (frames.doneWrite (frameCall c l) l) (frames.after (frameCall c l) l) k z
 
     -- done, it keeps the frame layer's promise of the call that it comes to
     pub lowered : firstNo (asks c l) ≡ 0 → FrameKept (frameCall c l) l (frames.doneAnswer (frameCall c l) l) l′

@@ -12,7 +12,7 @@ use Rattle.card.specs.Ring.{generationSize}
 use Rattle.pages.specs.Plain.{blankGeneration, blank, touched}
 use Rattle.recovery.specs.Contents.{FrameBytes}
 use Rattle.recovery.specs.Directory.{noteChange, turnOf}
-use Rattle.recovery.specs.Questions.{newPlaces, roomAsks, snapshotAsks, pageOutAsks}
+use Rattle.recovery.specs.Questions.{newPlaces, roomAsks, advanceAsks}
 use Rattle.recovery.specs.State.{Generation, State, places, entryCount, size, directoryOf, empty}
 use Rattle.recovery.specs.Step.{pendingTo, currentTo, queued, changeFrame, changeFrames, afterChange, afterSnapshot, Kind, page, directory, trailer, migration, header, outOf, afterKind, migrationDue, advanceDue, afterPageOut}
 
@@ -21,10 +21,10 @@ unfoldable pub blankFrames : List FrameBytes → List FrameBytes
 blankFrames [] = []
 blankFrames (w ∷ ws) = touched (w .frame) ∷ blankFrames ws
 
-abbrev Blanks : ℕ → List (List ℕ)
-Blanks n = replicate n []
+abbrev blanks : ℕ → List (List ℕ)
+blanks n = replicate n []
 
-long-blanks : (n : ℕ) → length (Blanks n) ≡ n
+long-blanks : (n : ℕ) → length (blanks n) ≡ n
 long-blanks n = length-replicate {A = List ℕ} n []
 
 -- ---- a generation
@@ -41,11 +41,11 @@ blank-size : (g : Generation) → size (blankGeneration g) ≡ size g
 unfolding size
 blank-size g = ap (λ (n : ℕ). generationSize n (entryCount (blankGeneration g))) (blank-places g) ∙ (unfold blankGeneration in refl)
 
-more-blanks : (n : ℕ) → Blanks n ++ ([] ∷ []) ≡ Blanks (suc n)
+more-blanks : (n : ℕ) → blanks n ++ ([] ∷ []) ≡ blanks (suc n)
 more-blanks zero = refl
 more-blanks (suc n) = ap (λ (l : List (List ℕ)). [] ∷ l) (more-blanks n)
 
-set-blanks : (n i : ℕ) → set (Blanks n) i [] ≡ Blanks n
+set-blanks : (n i : ℕ) → set (blanks n) i [] ≡ blanks n
 set-blanks zero i = refl
 set-blanks (suc n) zero = refl
 set-blanks (suc n) (suc i) = ap (λ (l : List (List ℕ)). [] ∷ l) (set-blanks n i)
@@ -53,7 +53,7 @@ set-blanks (suc n) (suc i) = ap (λ (l : List (List ℕ)). [] ∷ l) (set-blanks
 blank-queued : (t : Option ℕ) (w : FrameBytes) (g : Generation) → queued t (touched (w .frame)) (blankGeneration g) ≡ blankGeneration (queued t w g)
 unfolding queued blankGeneration
 blank-queued none w g =
-    let p : places (record { first = g .first; pagesDown = g .pagesDown; entries = g .entries; waiting = Blanks (length (g .waiting)) }) ≡ places g = blank-places g in
+    let p : places (record { first = g .first; pagesDown = g .pagesDown; entries = g .entries; waiting = blanks (length (g .waiting)) }) ≡ places g = blank-places g in
     let n : length (g .waiting ++ (w .bytes ∷ [])) ≡ suc (length (g .waiting)) = omega (arith, length-append (g .waiting) (w .bytes ∷ [])) in
     rw (p, n) (ap (λ (l : List (List ℕ)). record { first = g .first; pagesDown = g .pagesDown; entries = noteChange (record { frame = w .frame; place = places g }) (g .entries); waiting = l }) (more-blanks (length (g .waiting))))
 blank-queued (some i) w g =
@@ -75,7 +75,7 @@ blank-out : (g : Generation) → outOf (blankGeneration g) ≡ blankGeneration (
 unfolding outOf blankGeneration
 blank-out g = ap (λ (l : List (List ℕ)). record { first = g .first; pagesDown = suc (g .pagesDown); entries = g .entries; waiting = l }) (go (g .waiting))
   where
-    go : (xs : List (List ℕ)) → tail (Blanks (length xs)) ≡ Blanks (length (tail xs))
+    go : (xs : List (List ℕ)) → tail (blanks (length xs)) ≡ blanks (length (tail xs))
     go [] = refl
     go (x ∷ xs) = refl
 
@@ -87,17 +87,13 @@ module _ (s : State) where
   blank-room ws =
       rw (blank-changes ws (s .current), blank-places (changeFrames ws (s .current)), blank-places (s .current), blank-size (changeFrames ws (s .current)), blank-size (s .pending), blank-waits (s .pending), blank-waits (s .current))
 
-  pub blank-snapshotAsks : snapshotAsks (blank s) ≡ snapshotAsks s
-  unfolding snapshotAsks blank blankGeneration
-  blank-snapshotAsks = refl
-
-  pub blank-pageOutAsks : pageOutAsks (blank s) ≡ pageOutAsks s
-  unfolding pageOutAsks blank
-  blank-pageOutAsks = rw (blank-waits (s .pending), blank-waits (s .current))
-
   pub blank-due : advanceDue (blank s) ≡ advanceDue s
   unfolding advanceDue migrationDue blank blankGeneration
   blank-due = rw (long-blanks (length (s .pending .waiting)))
+
+  pub blank-advanceAsks : advanceAsks (blank s) ≡ advanceAsks s
+  unfolding advanceAsks
+  blank-advanceAsks = rw blank-due
 
   -- ---- what a call makes of it
 

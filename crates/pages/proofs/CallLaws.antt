@@ -14,7 +14,6 @@ use Rattle.card.specs.Bytes.{patch}
 use Rattle.card.specs.Pot.{countAt, flagsAt, putFlags, isZero, clearZero}
 use Rattle.card.specs.Question.{Question, ask, firstNo}
 use Rattle.card.specs.declared.range.Address.{Address}
-use Rattle.card.specs.declared.range.Lookup.the-variants.{Located}
 use Rattle.frames.proofs.KeepLaws.{numbered-no, numbered-done}
 use Rattle.frames.proofs.ReadyLaws.{ready, common-passed}
 use Rattle.frames.specs.Parts.{framesWith, Changing, ChangeKept}
@@ -23,7 +22,7 @@ use Rattle.frames.specs.declared.answer.Done.{Done}
 use Rattle.pages.proofs.AnswerLaws.{change-none, keeps-no, keeps-same, lifted}
 use Rattle.pages.proofs.NamedLaws.{changing-one, changing-two, one-frame, two-frames, asks-located, names-common, names-count, names-within, asks-stop, asks-on}
 use Rattle.pages.specs.Page.{pageBytes, writeFrames, rescindPot, rescindFrames}
-use Rattle.pages.specs.Promise.{Call, start, key, read, write, rescind, snapshot, pageOut, advance, refused, done, counted, filled, answered, countedAs, addressOf, atPlace, presentFrames, presentCount, writeChanges, rescindChanges, asks, frameCall, doneAnswer, refusal, Kept, NamedIs}
+use Rattle.pages.specs.Promise.{Call, start, key, read, write, rescind, snapshot, pageOut, advance, refused, done, counted, filled, answered, countedAs, atPlace, presentFrames, presentCount, writeChanges, rescindChanges, asks, frameCall, doneAnswer, refusal, Kept, NamedIs}
 use Rattle.pages.specs.declared.answer.Count.the-variants.{Present, Refused}
 use Rattle.pages.specs.declared.named.Named.{Named}
 use Rattle.record.specs.Holds.{holdsTogether}
@@ -57,8 +56,11 @@ module _ (l : Lent) (o : ℕ) (rest : Address → List Question) (r : Named) (n 
   names-together = ready (l .store) (length (l .memory)) (length (l .card)) (names-common l o rest r n z) .together
 
   -- its bytes can be read
-  pub readable : (firstNo (common l) ≡ 0) × ((addressOf l o ≡ Located (r .address)) × (r .pot ≡ presentFrames l (r .address .pot)))
-  readable = (names-common l o rest r n z, (n .place-is z, n .pot-is z))
+  pub readable : (firstNo (common l) ≡ 0)
+      × ((r .address .page < l .store .geometry .blocks) × ((r .address .entry < 102) × (r .pot ≡ presentFrames l (r .address .pot))))
+  readable =
+      let w = names-within l o rest r n z in
+      (names-common l o rest r n z, (w .page-high, (w .entry-high, n .pot-is z)))
 
   -- its page, its pot, or both can be changed
   pub page-changing : (x : List ℕ) → length x ≡ 512 → Changing (l .store) (l .memory) (r .address .page ∷ []) x

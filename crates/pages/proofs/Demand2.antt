@@ -10,7 +10,6 @@ use mathlib.Core.Option.{Option}
 use mathlib.Core.Path.{_≡_, refl, ap, sym, _∙_, subst}
 use native.Mathlib.Decide.{ℕ-discrete}
 use native.Mathlib.Omega.{arith}
-use Rattle.card.proofs.RangeLaws.{geometry-tells}
 use Rattle.card.proofs.Test.{byTest}
 use Rattle.card.specs.Block.{blockAt}
 use Rattle.card.specs.Header.{headerOn}
@@ -18,19 +17,22 @@ use Rattle.card.specs.Question.{firstNo, headerRanges}
 use Rattle.card.specs.Range.{Range, allBlocks}
 use Rattle.frames.proofs.Run.{told}
 use Rattle.frames.proofs.WorldLaws.{Standing, live, LentOk, done-follows, done-common}
-use Rattle.frames.specs.Promise as frames
 use Rattle.frames.specs.Promise.{Lent, lent, meaningOf, FrameKept}
 use Rattle.pages.proofs.AnswerLaws.{Later, asked-both, asked-own, frames-asked, kept-done, kept-refused, lowered}
+use Rattle.pages.proofs.LedgerLaws.{nonePending, someChange}
 use Rattle.pages.proofs.PlainLaws.{InStep, same-asks, agrees}
+use Rattle.pages.proofs.Represents.{accepted-full}
 use Rattle.pages.specs.Demand2.{plainAnswers, plainCard, NoStart, Calls, finished, next, Demand2}
 use Rattle.pages.specs.Plain.{Plain, blank, plainOf, plainAsks, PlainOutcome, answers, plainDone, plainDoes}
 use Rattle.pages.specs.Promise.{Call, start, key, read, write, rescind, snapshot, pageOut, advance, Answer, refused, done, atPlace, asks, frameCall, refusal, Kept}
 use Rattle.record.specs.Meaning.{zeroStore}
 use Rattle.recovery.proofs.Follows.{Stored, Follows}
-use Rattle.recovery.proofs.FrameTheorem.{accepted-stored, stored-long, stored-geometry}
+use Rattle.recovery.proofs.FrameTheorem.{accepted-stored, stored-long}
 use Rattle.recovery.specs.Book.{FrameBook}
-use Rattle.recovery.specs.State.{readFrame}
+use Rattle.recovery.specs.State.{empty, readFrame}
+use Rattle.recovery.specs.Step.{startState}
 use Rattle.recovery.specs.Write.{BlockWrite, putDown}
+use Rattle.frames.specs.Promise as frames
 
 later : (c : Call) → ((m : List ℕ) → c ≡ start m → ⊥) → Later c
 later (start m) h = h m refl
@@ -77,6 +79,8 @@ module _ (rs : List Range) (blocks area : ℕ) (full : blocks ≡ 1 + area + all
             follows = subst (λ (fb : FrameBook). Follows blocks area rs (meaningOf l′) (l′ .card) fb) (g .frames-are)
                 (done-follows blocks area rs l (t .frames) (frameCall c l) (held .0) (g .asked) l′ _ low (frames-asked l c e));
             ledger-is = g .ledger-is ∙ ap blank (sym (p .meaning e));
+            changed-is = g .changed-is ∙ ap someChange (sym (p .meaning e));
+            marked-is = g .marked-is ∙ ap nonePending (sym (p .meaning e));
             rows-are = g .rows-are;
             long = g .long;
           },
@@ -130,29 +134,36 @@ module _ (m card : List ℕ) (l₀ : Lent) (p : Kept (start m) (lent zeroStore m
   abbrev rs : List Range
   rs = headerRanges (headerOn (blockAt card 0))
 
-  stored : Stored blocks area rs card (readFrame (meaningOf l₀) card)
-  unfolding asks frameCall frames.after
-  stored = rw (p .meaning accepted) (accepted-stored m card accepted)
+  stored : Stored blocks area rs card (readFrame (startState m card) card)
+  unfolding asks
+  stored = accepted-stored m card accepted
+
+  state-is : meaningOf l₀ ≡ startState m card
+  unfolding frameCall frames.after
+  state-is = p .meaning accepted
 
   full : blocks ≡ 1 + area + allBlocks rs
-  full = geometry-tells blocks area rs (stored-geometry blocks area rs card _ stored) .full
+  unfolding asks
+  full = accepted-full m card accepted
 
   card-is : l₀ .card ≡ card
   unfolding frameCall frames.doneWrite
   card-is = kept-done (start m) was l₀ done p accepted .1
 
-  first-step : InStep rs blocks area full l₀ (plainOf (meaningOf l₀) card)
+  first-step : InStep rs blocks area full l₀ (plainOf (startState m card) card)
   unfolding plainOf frameCall frames.doneAnswer told
   first-step = record {
     passes = done-common blocks area rs was book (frames.start m) (refl, stored) tt l₀ _ low asked;
     follows = follows;
-    ledger-is = refl;
-    rows-are = λ o q e. unfold atPlace in (rw (follows .ranges-is, follows .area-is, e));
+    ledger-is = ap blank (sym state-is);
+    changed-is = unfold startState empty in (ap someChange (sym state-is));
+    marked-is = unfold startState empty in (ap nonePending (sym state-is));
+    rows-are = λ o q e. unfold startState atPlace in (rw e);
     long = stored-long blocks area rs card _ stored;
   }
     where
       book : FrameBook
-      book = plainOf (meaningOf l₀) card .frames
+      book = plainOf (startState m card) card .frames
 
       low : FrameKept (frames.start m) was frames.done l₀
       low = lowered (start m) was l₀ done p accepted
@@ -160,10 +171,10 @@ module _ (m card : List ℕ) (l₀ : Lent) (p : Kept (start m) (lent zeroStore m
       asked : firstNo (frames.asks (frames.start m) was) ≡ 0
       asked = frames-asked was (start m) accepted
 
-      follows : Follows blocks area rs (meaningOf l₀) (l₀ .card) (plainOf (meaningOf l₀) card .frames)
+      follows : Follows blocks area rs (meaningOf l₀) (l₀ .card) book
       follows = done-follows blocks area rs was book (frames.start m) (refl, stored) tt l₀ _ low asked
 
 pub demand-2 : Demand2
 demand-2 m card l₀ p cs n as′ l calls =
     let q = all-calls (rs m card l₀ p) (blocks m card l₀ p) (area m card l₀ p) (full m card l₀ p) cs l₀ as′ l calls n _ (first-step m card l₀ p) in
-    (q .0, q .1 ∙ ap (plainCard cs (plainOf (meaningOf l₀) card)) (card-is m card l₀ p))
+    (q .0, q .1 ∙ ap (plainCard cs (plainOf (startState m card) card)) (card-is m card l₀ p))

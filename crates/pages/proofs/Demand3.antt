@@ -1,6 +1,6 @@
 -- DEMAND 3: from a formatted card, after any list of calls and cuts, a start is done and writes nothing, and key and read show what the book keeps.
 -- Assumes nothing.
-use Prim.Native.Nat.{ℕ, zero, suc, _+_, _<_}
+use Prim.Native.Nat.{ℕ, zero, suc, _+_, _/_, _<_}
 use borrow.Author.Tests.{eq-eqb}
 use lib.ListN.{length}
 use mathlib.Core.Bool.{true}
@@ -8,6 +8,7 @@ use mathlib.Core.List.{List, []}
 use mathlib.Core.Option.{none, some}
 use mathlib.Core.Path.{_≡_, refl, ap, sym, _∙_}
 use native.Mathlib.Omega.{arith}
+use Rattle.card.proofs.AddressLaws.{located}
 use Rattle.card.proofs.QuestionLaws.{none-asked, asked-yes}
 use Rattle.card.specs.Block.{blockAt, whole}
 use Rattle.card.specs.Header.{headerOn}
@@ -16,17 +17,17 @@ use Rattle.card.specs.Range.{locate}
 use Rattle.card.specs.declared.range.Address.{Address}
 use Rattle.card.specs.declared.range.Lookup.{Lookup}
 use Rattle.card.specs.declared.range.Lookup.the-variants.{Located}
+use Rattle.frames.proofs.ReadyLaws.{has-frames}
 use Rattle.frames.proofs.Recovery.{frames-recover}
 use Rattle.frames.proofs.Run.{startLent, stays, firstWorld, Serves}
 use Rattle.frames.specs.Promise.{Lent, lent, meaningOf, common, FrameAnswer, FrameKept}
 use Rattle.pages.proofs.AnswerLaws.{ownAsks, asked-own, change-none, kept-done, lowered}
 use Rattle.pages.proofs.FormatLaws.{format-area, format-ranges, format-accepted, format-shows, format-done}
-use Rattle.pages.proofs.RunLaws.{has-frames, Beside, serves, address-is, page-shown, called-beside, run-beside}
+use Rattle.pages.proofs.RunLaws.{Beside, serves, address-is, page-shown, called-beside, run-beside}
 use Rattle.pages.specs.Book.{Book, Event, formatBook, isDone, told, bookAfter}
-use Rattle.pages.specs.Demand3.{World, Run, Shows, Demand3}
+use Rattle.pages.specs.Demand3.{World, Run, OfRanges, Shows, Demand3}
 use Rattle.pages.specs.Page.{Page, emptyPage, pageOf, formatCard}
 use Rattle.pages.specs.Promise.{start, key, read, Answer, done, counted, filled, addressOf, atPlace, presentFrames, asks, frameCall, doneAnswer, Kept, rangesIn, formatAsks, FormatKept}
-use Rattle.record.proofs.Held.{held}
 use Rattle.record.specs.Meaning.{zeroStore}
 use Rattle.recovery.proofs.FrameTheorem.{accepted-stored, stored-long}
 use Rattle.recovery.specs.Questions.{startAsks}
@@ -125,6 +126,10 @@ module _ (area : ℕ) (numbers before card : List ℕ) (k : FormatKept area numb
   place-same : (o : ℕ) → placeOn card o ≡ locate (rangesIn numbers) (1 + area) o
   place-same o = rw (card-is, format-ranges area numbers before format-passes, format-area area numbers before format-passes)
 
+  -- every OID of them has a place by it
+  place-of : (o : ℕ) → OfRanges numbers o → (p : Address) × (placeOn card o ≡ Located p)
+  place-of o r = let q = located numbers (length numbers / 2) (1 + area) o (r .0) (r .1) (r .2) (r .3) in (q .0, place-same o ∙ q .1)
+
   module _ (m : List ℕ) (memory : whole 4 64 (length m) ≡ true) where
     formatted : firstNo (startAsks m card) ≡ 0
     formatted = rw card-is (format-accepted area numbers before format-passes m memory)
@@ -151,7 +156,7 @@ demand-3 area numbers before card k es w run m memory a l p =
     let s = reached area numbers before card k m memory es w run in (
       start-done m card _ w _ s m memory a l p,
       started m card _ w _ s m memory a l p .0,
-      (λ o q e. start-shows m card _ w _ s m memory a l p o q (place-same area numbers before card k o ∙ e)),
+      (λ o r. let q = place-of area numbers before card k o r in start-shows m card _ w _ s m memory a l p o (q .0) (q .1)),
     )
 
 -- start accepts every card that a finished format and later calls wrote, cut off or not

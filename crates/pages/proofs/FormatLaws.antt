@@ -3,7 +3,7 @@
 use Prim.Native.Nat.{ℕ, _+_, _*_, _/_, _%_, _≤_, _<_}
 use borrow.Author.Tests.{eqb-true, eq-eqb, ne-eqb}
 use lib.Dec.{eqb}
-use lib.ListN.{length}
+use lib.ListN.{length, getD}
 use mathlib.Core.Bool.{Bool, true, false, cond, _&&_, and-false}
 use mathlib.Core.List.{List}
 use mathlib.Core.Logic.{_≢_}
@@ -12,6 +12,7 @@ use mathlib.Core.Path.{_≡_, refl, _∙_}
 use native.Mathlib.Omega.{arith}
 use Rattle.card.proofs.AddressLaws.{Within, lies, lies-home, pots-among, pot-in}
 use Rattle.card.proofs.BlockLaws.{put-length, put-same, put-other}
+use Rattle.card.proofs.BytesLaws.{tab-same, Filled}
 use Rattle.card.proofs.CheckpointLaws.{whole-tells}
 use Rattle.card.proofs.HeaderLaws.{ranges-length, header-length}
 use Rattle.card.proofs.PotLaws.{fresh-count, fresh-flags}
@@ -23,7 +24,7 @@ use Rattle.card.specs.Bytes.{All}
 use Rattle.card.specs.Header.{headerBlock, headerOn}
 use Rattle.card.specs.Pot.{isZero, freshPot}
 use Rattle.card.specs.Question.{firstNo, headerRanges}
-use Rattle.card.specs.Range.{Range, geometryFits, locate, allPots}
+use Rattle.card.specs.Range.{Range, rangeIn, rangesOf, geometryFits, locate, allPots}
 use Rattle.card.specs.declared.range.Address.{Address}
 use Rattle.card.specs.declared.range.Lookup.the-variants.{Located}
 use Rattle.frames.specs.Promise.{numbered}
@@ -57,7 +58,7 @@ module _ (blocks area : ℕ) (rs : List Range) (c : List ℕ) (long : length c �
   head-fits : 512 * 0 + 512 ≤ length (putPots c (allPots rs (1 + area)))
   head-fits = omega (arith, potted-long, tells .full)
 
-  pub format-long : length (formatCard area rs c) ≡ 512 * blocks
+  format-long : length (formatCard area rs c) ≡ 512 * blocks
   unfolding formatCard
   format-long = put-length _ 0 (headerBlock 0 0 area rs) head-long head-fits ∙ potted-long
 
@@ -77,7 +78,7 @@ module _ (blocks area : ℕ) (rs : List Range) (c : List ℕ) (long : length c �
       put-other _ 0 (headerBlock 0 0 area rs) head-long head-fits n no-head ∙ putPots-other blocks c (allPots rs (1 + area)) n long all-pots other
 
 -- a page whose pot is fresh is zeros, and its count 0
-pub fresh-page : (v : Contents) (p : Address) → v (p .pot) ≡ freshPot → p .entry < 102 → pageOf v p ≡ emptyPage
+fresh-page : (v : Contents) (p : Address) → v (p .pot) ≡ freshPot → p .entry < 102 → pageOf v p ≡ emptyPage
 unfolding pageOf pageBytes isZero
 fresh-page v p e h = rw (e, fresh-flags (p .entry) h, fresh-count (p .entry) h)
 
@@ -97,12 +98,8 @@ module _ (area : ℕ) (numbers before : List ℕ) (ok : firstNo (formatAsks area
   card-long : length (formatCard area (rangesIn numbers) before) ≡ 512 * (length before / 512)
   card-long = format-long (length before / 512) area (rangesIn numbers) before long-before (passed .1)
 
-  -- the card has as many blocks as before
-  pub format-blocks : length (formatCard area (rangesIn numbers) before) / 512 ≡ length before / 512
-  format-blocks = omega (arith, card-long)
-
   -- it shows its home blocks
-  pub format-keeps : Stored (length before / 512) area (rangesIn numbers) (formatCard area (rangesIn numbers) before) (blockAt (formatCard area (rangesIn numbers) before))
+  format-keeps : Stored (length before / 512) area (rangesIn numbers) (formatCard area (rangesIn numbers) before) (blockAt (formatCard area (rangesIn numbers) before))
   format-keeps =
       let w = whole-tells 11 65536 (length before) (passed .0) in
       format-stored (length before / 512) area (rangesIn numbers) (formatCard area (rangesIn numbers) before) card-long (w .1 .0) (w .1 .1) (passed .1)
@@ -119,16 +116,13 @@ module _ (area : ℕ) (numbers before : List ℕ) (ok : firstNo (formatAsks area
   pub format-accepted : (m : List ℕ) → whole 4 64 (length m) ≡ true → firstNo (startAsks m (formatCard area (rangesIn numbers) before)) ≡ 0
   format-accepted = stored-accepts (length before / 512) area (rangesIn numbers) (formatCard area (rangesIn numbers) before) _ format-keeps
 
-  -- every page is zeros, and its count 0: on the card, and as it is read after a start
+  -- every page, as it is read after a start, is zeros, and its count 0
   module _ (oid : ℕ) (p : Address) (at : locate (rangesIn numbers) (1 + area) oid ≡ Located p) where
     pot-fresh : blockAt (formatCard area (rangesIn numbers) before) (p .pot) ≡ freshPot
     pot-fresh = format-pots (length before / 512) area (rangesIn numbers) before long-before (passed .1) oid p at
 
     within : Within (1 + area) (length before / 512) p
     within = lies-home (length before / 512) area (rangesIn numbers) oid p (passed .1) at
-
-    pub format-pages : pageOf (blockAt (formatCard area (rangesIn numbers) before)) p ≡ emptyPage
-    format-pages = fresh-page _ p pot-fresh (within .entry-high)
 
     pub format-shows : (m : List ℕ)
         → pageOf (readFrame (startState m (formatCard area (rangesIn numbers) before)) (formatCard area (rangesIn numbers) before)) p ≡ emptyPage
@@ -155,6 +149,11 @@ format-done area numbers before card k =
     (e, k .card-is ∙ rw e)
 
 -- ---- what code answers
+
+-- the numbers of n ranges, copied
+pub ranges-copied : (numbers r : List ℕ) (n m : ℕ) → 2 * n ≤ m → Filled (λ k. getD numbers k 0) m r → rangesOf r n ≡ rangesOf numbers n
+unfolding rangesOf
+ranges-copied numbers r n m few copied = tab-same (rangeIn r) (rangeIn numbers) 0 n (λ i low high. rw (copied (2 * i) (omega arith), copied (2 * i + 1) (omega arith)))
 
 module _ (area : ℕ) (numbers before : List ℕ) where
   answers : (n : ℕ) (card : List ℕ) → firstNo (formatAsks area numbers before) ≡ n → card ≡ cond (eqb n 0) (formatCard area (rangesIn numbers) before) before

@@ -1,10 +1,10 @@
--- What the plain machine reads off its ledger and its frames is the state's: the frames that a call touches, the room for them, the write that is due, the block that is written.
+-- What the plain machine reads off its ledger and its frames is the state's.
 -- Assumes nothing.
-use Prim.Native.Nat.{ℕ, suc, _+_, _<_}
-use borrow.Author.Tests.{ltb-true, ltb-false}
+use Prim.Native.Nat.{ℕ, zero, suc, _+_, _<_}
+use borrow.Author.Tests.{ltb-true, ltb-false, lt-ltb}
 use lib.Dec.{ltb, eqb}
 use lib.ListN.{length}
-use mathlib.Core.Bool.{Bool, true, false, cond}
+use mathlib.Core.Bool.{Bool, true, false, cond, _||_}
 use mathlib.Core.List.{List, [], _∷_}
 use mathlib.Core.Logic.{_≢_}
 use mathlib.Core.Option.{some}
@@ -14,27 +14,29 @@ use Rattle.card.specs.Question.{firstNo}
 use Rattle.card.specs.Range.{Range}
 use Rattle.card.specs.Ring.{ringAt}
 use Rattle.card.specs.declared.range.Address.{Address}
-use Rattle.pages.proofs.BlankLaws.{blankFrames, blank-waits, blank-room, blank-due}
+use Rattle.pages.proofs.BlankLaws.{blankFrames, blank-waits, blank-room, blank-due, blank-advanceAsks}
 use Rattle.pages.specs.Page.{flagged, writeFrames, rescindFrames}
-use Rattle.pages.specs.Plain.{Row, Plain, blankGeneration, blank, touched, writeTouches, rescindTouches, plainOut, plainKind, plainPageOut}
+use Rattle.pages.specs.Plain.{Row, Plain, blankGeneration, blank, touched, writeTouches, rescindTouches, isNone, plainAsks, plainOut, plainKind, plainPageOut}
+use Rattle.pages.specs.Promise.{pageOut}
 use Rattle.recovery.proofs.Follows.{Follows}
 use Rattle.recovery.proofs.FollowsStep.{some-waits}
 use Rattle.recovery.proofs.FrameTheorem.{pending-bytes, current-bytes, home-bytes, due-page, due-migration}
-use Rattle.recovery.proofs.SumLaws.{Distinct, same-room, same-due, given-first}
-use Rattle.recovery.specs.Book.{markedOr}
+use Rattle.recovery.proofs.SumLaws.{Distinct, one-entry, same-room, same-due, same-advance}
+use Rattle.recovery.specs.Book.{FrameBook, markedOr, bookWrote}
 use Rattle.recovery.specs.Contents.{Contents, FrameBytes}
+use Rattle.recovery.specs.Directory.{Note}
 use Rattle.recovery.specs.Questions.{roomAsks, pageOutAsks, advanceAsks}
-use Rattle.recovery.specs.State.{State, directoryOf}
-use Rattle.recovery.specs.Step.{Kind, page, directory, trailer, migration, header, outWrite, tailBytes, trailerBlockNo, nextMigration, kindWrite, advanceDue, pageOutWrite}
-use Rattle.recovery.specs.Sums.{remainingWrites, firstOf, roomSums, advanceSums}
+use Rattle.recovery.specs.State.{Generation, State, entryCount, directoryOf, empty}
+use Rattle.recovery.specs.Step.{pendingTo, currentTo, changeFrame, changeFrames, Kind, page, directory, trailer, migration, header, outWrite, outOf, tailBytes, trailerBlockNo, nextMigration, kindWrite, afterKind, advanceDue, pageOutWrite, afterPageOut}
+use Rattle.recovery.specs.Sums.{notedIn, remainingWrites, firstOf, roomSums, advanceSums}
 
 -- ---- the frames that a call changes, by their numbers
 
 -- a write's, none where it is of length 0
-pub write-touches : (v : Contents) (p : Address) (at : ℕ) (new : List ℕ) (empty : Bool)
-    → blankFrames (cond empty [] (writeFrames v p at new)) ≡ cond empty [] (touched (p .page) ∷ cond (flagged v p) (touched (p .pot) ∷ []) [])
+pub write-touches : (v : Contents) (p : Address) (at : ℕ) (new : List ℕ) (nothing : Bool)
+    → blankFrames (cond nothing [] (writeFrames v p at new)) ≡ cond nothing [] (touched (p .page) ∷ cond (flagged v p) (touched (p .pot) ∷ []) [])
 unfolding writeFrames blankFrames
-write-touches v p at new empty = go _ _ empty (flagged v p)
+write-touches v p at new nothing = go _ _ nothing (flagged v p)
   where
     go : (x y : FrameBytes) (e z : Bool) → blankFrames (cond e [] (x ∷ cond z (y ∷ []) [])) ≡ cond e [] (touched (x .frame) ∷ cond z (touched (y .frame) ∷ []) [])
     go x y true z = refl
@@ -54,7 +56,58 @@ touches-apart r new p d = go (eqb (length new) 0) (r .zero)
     go false true = ((d, tt), (tt, tt))
     go false false = (tt, tt)
 
+-- ---- questions 16 and 17, as a state is asked them
+
+abbrev pub nonePending : State → Bool
+nonePending s = eqb (entryCount (s .pending)) 0
+
+abbrev pub someChange : State → Bool
+someChange s = ltb 0 (entryCount (s .current))
+
+-- a change leaves an entry, new or old
+pub change-notes : (w : FrameBytes) (ws : List FrameBytes) (g : Generation) → 0 < entryCount (changeFrames (w ∷ ws) g)
+unfolding changeFrames
+change-notes w [] g = rw (one-entry w g) (go (g .entries))
+  where
+    go : (es : List Note) → 0 < length es + cond (notedIn (w .frame) es) 0 1
+    go [] = unfold notedIn in (omega arith)
+    go (e ∷ es) = omega arith
+change-notes w (x ∷ xs) g = change-notes x xs (changeFrame w g)
+
+-- page-out keeps all entries
+pub out-keeps : (s : State) → (nonePending (afterPageOut s) ≡ nonePending s) × (someChange (afterPageOut s) ≡ someChange s)
+unfolding afterPageOut outOf
+out-keeps s = go (ltb 0 (length (s .pending .waiting)))
+  where
+    out : Bool → State
+    out t = cond t (pendingTo (outOf (s .pending)) (s .tailDown) s) (currentTo (outOf (s .current)) s)
+
+    go : (t : Bool) → (nonePending (out t) ≡ nonePending s) × (someChange (out t) ≡ someChange s)
+    go true = (refl, refl)
+    go false = (refl, refl)
+
+-- so does advance, but a header takes the pending ones, and what is marked
+pub kind-current : (k : Kind) (s : State) → afterKind k s .current ≡ s .current
+unfolding afterKind
+kind-current page s = refl
+kind-current directory s = refl
+kind-current trailer s = refl
+kind-current migration s = refl
+kind-current header s = refl
+
+pub kind-marked : (k : Kind) (s : State) (b : FrameBook) → isNone (b .marked) ≡ nonePending s → isNone (bookWrote k b .marked) ≡ nonePending (afterKind k s)
+unfolding afterKind outOf empty
+kind-marked page s b e = e
+kind-marked directory s b e = e
+kind-marked trailer s b e = e
+kind-marked migration s b e = e
+kind-marked header s b e = refl
+
 -- ---- a state, and the machine's ledger beside it
+
+some-of : (a b : ℕ) → ltb 0 (a + b) ≡ (ltb 0 a || ltb 0 b)
+some-of zero b = let e : 0 + b ≡ b = omega arith in rw e
+some-of (suc a) b = rw (lt-ltb 0 (suc a + b) (omega arith), lt-ltb 0 (suc a) (omega arith))
 
 module _ (s : State) (t : Plain) (ledger-is : t .ledger ≡ blank s) where
   pub room-is : (ws touches : List FrameBytes) → blankFrames ws ≡ touches → Distinct touches → roomAsks ws s ≡ roomSums touches (t .ledger)
@@ -64,8 +117,11 @@ module _ (s : State) (t : Plain) (ledger-is : t .ledger ≡ blank s) where
   due-is = rw ledger-is (same-due (blank s) ∙ blank-due s)
 
   pub advance-is : advanceAsks s ≡ advanceSums (t .ledger)
-  unfolding advanceAsks advanceSums
-  advance-is = rw (← (given-first (remainingWrites (t .ledger))), due-is)
+  advance-is = rw ledger-is (sym (blank-advanceAsks s) ∙ same-advance (blank s))
+
+  pub waiting-is : pageOutAsks s ≡ plainAsks pageOut t
+  unfolding pageOutAsks plainAsks blank
+  waiting-is = rw (ledger-is, blank-waits (s .pending), blank-waits (s .current), some-of (length (s .pending .waiting)) (length (s .current .waiting)))
 
   -- ---- with its card, and the machine's frames: the block that is written
 

@@ -1,23 +1,23 @@
 -- A page that a call names: where it lies, the frames that are changed for it, and how the questions after 9 follow.
 -- Assumes nothing.
 use Prim.Native.Nat.{ℕ, _+_, _*_, _≤_, _<_}
-use borrow.Author.Tests.{ltb-true, lt-ltb, le-leb, ne-eqb}
-use lib.Dec.{leb, ltb}
-use lib.ListN.{length, take, drop, length-append}
-use lib.Seq.{take-all, take-at, drop-at}
-use mathlib.Core.Bool.{true, false, _&&_}
+use borrow.Author.Tests.{lt-ltb, le-leb}
+use lib.Dec.{leb}
+use lib.ListN.{length, getD, length-append}
+use mathlib.Core.Bool.{true, false}
 use mathlib.Core.List.{List, [], _∷_, _++_, append-nil}
 use mathlib.Core.Logic.{_≢_}
 use mathlib.Core.Path.{_≡_, refl, ap, sym, _∙_}
 use native.Mathlib.Decide.{ℕ-discrete}
 use native.Mathlib.Omega.{arith}
 use Rattle.card.proofs.AddressLaws.{Within, lies-home}
-use Rattle.card.proofs.BytesLaws.{patch-on, patch-last, tab-length}
+use Rattle.card.proofs.BlockLaws.{block-first, block-second}
+use Rattle.card.proofs.BytesLaws.{tab-length, tab-list}
 use Rattle.card.proofs.QuestionLaws.{asked-no, group-yes, group-no}
 use Rattle.card.proofs.RangeLaws.{geometry-tells}
-use Rattle.card.proofs.Test.{both, joined}
-use Rattle.card.specs.Block.{blockAt, putBlock}
-use Rattle.card.specs.Bytes.{part, tabulate, All, zeros}
+use Rattle.card.proofs.Test.{joined}
+use Rattle.card.specs.Block.{blockAt}
+use Rattle.card.specs.Bytes.{tabulate, All, zeros}
 use Rattle.card.specs.Pot.{countAt, flagsAt, isZero}
 use Rattle.card.specs.Question.{Question, firstNo}
 use Rattle.card.specs.Range.{rangeIn, rangesOf}
@@ -31,6 +31,8 @@ use Rattle.pages.specs.Page.{pageBytes}
 use Rattle.pages.specs.Promise.{addressOf, atPlace, presentFrames, presentCount, placed, NamedIs}
 use Rattle.pages.specs.declared.named.Named.{Named}
 use Rattle.record.proofs.Held.{held}
+use Rattle.record.proofs.ListLaws.{elem-miss, elem-end, once-first, once-end, within-yes, within-end}
+use Rattle.record.proofs.Tests.{within-each}
 use Rattle.record.specs.Holds.{holdsTogether}
 use Rattle.record.specs.Lists.{elem, once, within, allWithin}
 use Rattle.record.specs.declared.store.Store.{Store}
@@ -53,27 +55,9 @@ ranges-few s h =
 
 -- ---- its frames changed
 
-once-one : (f : ℕ) → once (f ∷ []) ≡ true
-unfolding once elem
-once-one f = refl
-
-once-two : (f g : ℕ) → g ≢ f → once (f ∷ g ∷ []) ≡ true
-unfolding once elem
-once-two f g h = rw (ne-eqb g f h)
-
-within-more : (low high f : ℕ) (fs : List ℕ) → low ≤ f → f < high → allWithin low high fs ≡ true → allWithin low high (f ∷ fs) ≡ true
-unfolding allWithin within
-within-more low high f fs a b h = joined (leb low f && ltb f high) _ (joined (leb low f) _ (le-leb low f a) (lt-ltb f high b)) h
-
-within-first : (low high f : ℕ) (fs : List ℕ) → allWithin low high (f ∷ fs) ≡ true → (f < high) × (allWithin low high fs ≡ true)
-unfolding allWithin within
-within-first low high f fs h =
-    let a = both (leb low f && ltb f high) _ h in
-    (ltb-true f high (both (leb low f) _ (a .0) .1), a .1)
-
-within-none : (low high : ℕ) → allWithin low high [] ≡ true
-unfolding allWithin
-within-none low high = refl
+lies-within : (low high f : ℕ) → low ≤ f → f < high → within low high f ≡ true
+unfolding within
+lies-within low high f a b = joined (leb low f) _ (le-leb low f a) (lt-ltb f high b)
 
 module _ (s : Store) (memory : List ℕ) (card : ℕ) (passed : firstNo (commonAsks s (length memory) card) ≡ 0) where
   changing : (names bytes : List ℕ) → length names ≤ 256 → once names ≡ true → allWithin (s .geometry .area + 1) (s .geometry .blocks) names ≡ true
@@ -94,32 +78,36 @@ module _ (s : Store) (memory : List ℕ) (card : ℕ) (passed : firstNo (commonA
   -- one home frame
   pub changing-one : (f : ℕ) (x : List ℕ) → 1 + s .geometry .area ≤ f → f < s .geometry .blocks → length x ≡ 512 → Changing s memory (f ∷ []) x
   changing-one f x a b long =
-      changing (f ∷ []) x (omega arith) (once-one f) (within-more _ _ f [] (omega arith) b (within-none _ _)) (omega (arith, long))
+      let single : once (f ∷ []) ≡ true = once-first f (f ∷ []) [] refl (elem-end f [] refl) ∙ once-end [] refl in
+      let home : allWithin (s .geometry .area + 1) (s .geometry .blocks) (f ∷ []) ≡ true =
+      within-yes _ _ f (f ∷ []) [] refl (lies-within _ _ f (omega arith) b) ∙ within-end _ _ [] refl in
+      changing (f ∷ []) x (omega arith) single home (omega (arith, long))
 
   -- a page and its pot
   pub changing-two : (p : Address) (x y : List ℕ) → Within (1 + s .geometry .area) (s .geometry .blocks) p → length x ≡ 512 → length y ≡ 512
       → Changing s memory (p .page ∷ p .pot ∷ []) (x ++ y)
   changing-two p x y w m n =
-      changing (p .page ∷ p .pot ∷ []) (x ++ y) (omega arith) (once-two (p .page) (p .pot) (omega (arith, w .pot-before)))
-      (within-more _ _ (p .page) _ (omega (arith, w .page-low)) (w .page-high) (within-more _ _ (p .pot) [] (omega (arith, w .pot-low)) (w .pot-high) (within-none _ _)))
-      (simp length-append (omega (arith, m, n)))
+      let names = p .page ∷ p .pot ∷ [] in
+      let pot = changing-one (p .pot) y (w .pot-low) (w .pot-high) n in
+      let other : elem (p .page) (p .pot ∷ []) ≡ false = elem-miss (p .page) (p .pot) (p .pot ∷ []) [] refl (omega (arith, w .pot-before)) ∙ elem-end (p .page) [] refl in
+      let single : once names ≡ true = once-first (p .page) names (p .pot ∷ []) refl other ∙ pot .named-once in
+      let home : allWithin (s .geometry .area + 1) (s .geometry .blocks) names ≡ true =
+      within-yes _ _ (p .page) names (p .pot ∷ []) refl (lies-within _ _ (p .page) (omega (arith, w .page-low)) (w .page-high)) ∙ pot .home in
+      changing names (x ++ y) (omega arith) single home (simp length-append (omega (arith, m, n)))
 
 -- frames that are named are small numbers
+changing-small : (s : Store) (memory names bytes : List ℕ) → Changing s memory names bytes → (k : ℕ) → k < length names → getD names k 0 < 65536
+changing-small s memory names bytes h k l =
+    let home = within-each (s .geometry .area + 1) (s .geometry .blocks) (λ i. getD names i 0) 0 (length names) (rw (tab-list 0 names) (h .home)) k (omega arith) (omega arith) in
+    omega (arith, home .1, h .card-few)
+
 pub changing-first : (s : Store) (memory : List ℕ) (f : ℕ) (fs bytes : List ℕ) → Changing s memory (f ∷ fs) bytes → f < 65536
-changing-first s memory f fs bytes h = omega (arith, within-first _ _ f fs (h .home) .0, h .card-few)
+changing-first s memory f fs bytes h = changing-small s memory (f ∷ fs) bytes h 0 (omega arith)
 
 pub changing-second : (s : Store) (memory : List ℕ) (f g : ℕ) (fs bytes : List ℕ) → Changing s memory (f ∷ g ∷ fs) bytes → g < 65536
-changing-second s memory f g fs bytes h = omega (arith, within-first _ _ g fs (within-first _ _ f (g ∷ fs) (h .home) .1) .0, h .card-few)
+changing-second s memory f g fs bytes h = changing-small s memory (f ∷ g ∷ fs) bytes h 1 (omega arith)
 
 -- ---- frames with their bytes
-
-block-first : (x y : List ℕ) → length x ≡ 512 → blockAt (x ++ y) 0 ≡ x
-unfolding blockAt part
-block-first x y h = let e : 512 * 0 ≡ 0 = omega arith in ap (λ (k : ℕ). take 512 (drop k (x ++ y))) e ∙ take-at x y 512 h
-
-block-second : (x y : List ℕ) → length x ≡ 512 → length y ≡ 512 → blockAt (x ++ y) 1 ≡ y
-unfolding blockAt part
-block-second x y h k = ap (λ (z : List ℕ). take 512 z) (drop-at x y (512 * 1) (omega (arith, h))) ∙ take-all 512 y (omega (arith, k))
 
 pub one-frame : (f : ℕ) (x : List ℕ) → length x ≡ 512 → framesWith (f ∷ []) x ≡ record { frame = f; bytes = x } ∷ []
 unfolding tabulate
@@ -131,15 +119,6 @@ pub two-frames : (f g : ℕ) (x y : List ℕ) → length x ≡ 512 → length y 
     → framesWith (f ∷ g ∷ []) (x ++ y) ≡ record { frame = f; bytes = x } ∷ record { frame = g; bytes = y } ∷ []
 unfolding tabulate
 two-frames f g x y h k = rw (block-first x y h, block-second x y h k)
-
--- two blocks that code has put one after the other
-pub put-both : (c b d x y : List ℕ) → length c ≡ 1024 → length x ≡ 512 → length y ≡ 512 → b ≡ putBlock c 0 x → d ≡ putBlock b 1 y → d ≡ x ++ y
-unfolding putBlock
-put-both c b d x y h m n p q =
-    let z : 512 * 0 ≡ 0 = omega arith in
-    let o : 512 * 1 ≡ 512 = omega arith in
-    let long : 0 + length (x ++ y) ≡ length c = simp length-append (omega (arith, h, m, n)) in
-    rw (q, p, z, o) (patch-on c x y 512 m (omega (arith, h, n)) ∙ patch-last c 0 (x ++ y) long)
 
 -- ---- its bytes
 

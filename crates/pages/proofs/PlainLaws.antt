@@ -1,8 +1,8 @@
 -- The plain machine beside what is lent to a call: it is asked the same, and of a call that is done it has the answer, the block and the tables.
 -- Assumes nothing.
 use Prim.Native.Nat.{ℕ, _+_, _≤_, _<_}
-use borrow.Author.Tests.{ltb-true, leb-true, eqb-true}
-use lib.Dec.{leb, ltb, eqb}
+use borrow.Author.Tests.{ltb-true, lt-ltb, ne-eqb}
+use lib.Dec.{eqb}
 use lib.ListN.{length}
 use mathlib.Core.Bool.{Bool, true, false, cond, false≢true}
 use mathlib.Core.List.{List, [], _∷_}
@@ -21,21 +21,22 @@ use Rattle.card.specs.declared.range.Lookup.{Lookup}
 use Rattle.card.specs.declared.range.Lookup.the-variants.{Located, Outside}
 use Rattle.frames.proofs.Run.{told, Asked}
 use Rattle.frames.specs.Promise.{Lent, meaningOf, common, FrameCall}
-use Rattle.pages.proofs.AnswerLaws.{Later, ownAsks, found-place}
-use Rattle.pages.proofs.BlankLaws.{blankFrames, blank-snapshotAsks, blank-pageOutAsks, blank-change, blank-snapshot, blank-pageOut, blank-kind}
-use Rattle.pages.proofs.LedgerLaws.{write-touches, rescind-touches, touches-apart, room-is, due-is, advance-is, out-is, kind-is}
+use Rattle.pages.proofs.AnswerLaws.{Later, ownAsks, found-place, write-passed, rescind-passed}
+use Rattle.pages.proofs.BlankLaws.{blankFrames, blank-change, blank-snapshot, blank-pageOut, blank-kind}
+use Rattle.pages.proofs.LedgerLaws.{write-touches, rescind-touches, touches-apart, nonePending, someChange, change-notes, out-keeps, kind-current, kind-marked, room-is, due-is, advance-is, waiting-is, out-is, kind-is}
 use Rattle.pages.proofs.Represents.{write-whole, rescind-whole, write-same, rescind-same, AsTable, Long, changes-long, in-p, updated}
 use Rattle.pages.proofs.RowLaws.{rescind-row, rescind-other, write-row, write-other}
 use Rattle.pages.specs.Book.{update, written, rescinded}
 use Rattle.pages.specs.Page.{Page, flagged, pageBytes, pageOf, writeFrames, rescindFrames}
-use Rattle.pages.specs.Plain.{Row, rowOf, Plain, blank, plainAddress, touched, writeTouches, rescindTouches, plainAsks, plainKind, PlainOutcome, answers, plainWrite, plainRescind, plainAdvance, plainDone}
+use Rattle.pages.specs.Plain.{Row, rowOf, Plain, blank, plainAddress, touched, writeTouches, rescindTouches, isNone, plainAsks, plainKind, PlainOutcome, answers, plainWrite, plainRescind, plainAdvance, plainDone}
 use Rattle.pages.specs.Promise.{Call, start, key, read, write, rescind, snapshot, pageOut, advance, Answer, done, counted, filled, wrote, answered, addressOf, atPlace, presentFrames, presentCount, writeChanges, rescindChanges, placed, frameCall, doneAnswer}
 use Rattle.recovery.proofs.Follows.{Follows}
 use Rattle.recovery.proofs.FrameTheorem.{reads-present}
 use Rattle.recovery.specs.Book.{FrameBook, applyChanges, bookChange, bookWrote, WholeFrame}
 use Rattle.recovery.specs.Contents.{Contents, FrameBytes}
-use Rattle.recovery.specs.Questions.{roomAsks, given, advanceAsks}
-use Rattle.recovery.specs.Step.{changeFrames, afterChange, Kind, page, directory, trailer, migration, header, kindWrite, advanceDue}
+use Rattle.recovery.specs.Questions.{roomAsks, snapshotAsks, given, advanceAsks}
+use Rattle.recovery.specs.State.{entryCount, empty}
+use Rattle.recovery.specs.Step.{changeFrames, afterChange, afterSnapshot, Kind, page, directory, trailer, migration, header, kindWrite, advanceDue}
 use Rattle.recovery.specs.Sums.{roomSums}
 use Rattle.recovery.specs.Write.{BlockWrite}
 use Rattle.frames.specs.Promise as frames
@@ -58,40 +59,56 @@ module _ (rs : List Range) (blocks area : ℕ) (full : blocks ≡ 1 + area + all
   abbrev SameRows : Contents → (ℕ → Row) → Type 0
   SameRows v rows = AsTable rs blocks area full rowOf v rows
 
-  -- the machine's tables are those of what is lent, which passes questions 1 to 3
+  -- the machine's tables and tests are those of what is lent, which passes questions 1 to 3
   pub record InStep (l : Lent) (t : Plain) : Type 0 where
     pub passes : firstNo (common l) ≡ 0
     pub follows : Follows blocks area rs (meaningOf l) (l .card) (t .frames)
     pub ledger-is : t .ledger ≡ blank (meaningOf l)
+    pub changed-is : t .changed ≡ someChange (meaningOf l)
+    pub marked-is : isNone (t .frames .marked) ≡ nonePending (meaningOf l)
     pub rows-are : SameRows (t .frames .present) (t .rows)
     pub long : Long rs blocks area full (t .frames .present)
 
   module _ (l : Lent) (t : Plain) (b : InStep l t) where
-    -- A call that is done, as the frame layer's call that it comes to and its answer, and what the machine does: answer and block are the same, and so are the tables
-    -- that they leave.
+    -- a call that is done, as its frame call and its answer, and what the machine does: answer, block and tables are the same
     pub record Agrees (c : FrameCall) (a : Answer) (d : PlainOutcome) : Type 0 where
       pub asked : Asked c l
       pub answer-is : a ≡ d .answer
       pub write-is : frames.doneWrite c l ≡ d .write
       pub frames-are : told c (frames.doneAnswer c l) (t .frames) ≡ d .next .frames
       pub ledger-is : d .next .ledger ≡ blank (frames.after c l)
+      pub changed-is : d .next .changed ≡ someChange (frames.after c l)
+      pub marked-is : isNone (d .next .frames .marked) ≡ nonePending (frames.after c l)
       pub rows-are : SameRows (d .next .frames .present) (d .next .rows)
       pub long : Long rs blocks area full (d .next .frames .present)
 
     unchanged : (a a′ : Answer) → a ≡ a′ → Agrees (frames.change []) a (answers a′ t)
     unfolding frames.doneWrite frames.doneAnswer frames.after told applyChanges afterChange changeFrames
-    unchanged a a′ e = record { asked = tt; answer-is = e; write-is = refl; frames-are = refl; ledger-is = b .ledger-is; rows-are = b .rows-are; long = b .long }
+    unchanged a a′ e = record {
+      asked = tt;
+      answer-is = e;
+      write-is = refl;
+      frames-are = refl;
+      ledger-is = b .ledger-is;
+      changed-is = b .changed-is;
+      marked-is = b .marked-is;
+      rows-are = b .rows-are;
+      long = b .long;
+    }
 
     -- frames of one page change, and its row
-    changed : (ws touches : List FrameBytes) (o : ℕ) (x : Row) → blankFrames ws ≡ touches → All (WholeFrame area blocks) ws → SameRows (applyChanges ws (t .frames .present)) (update o x (t .rows))
-        → Agrees (frames.change ws) done (answers done (record { rows = update o x (t .rows); ledger = afterChange touches (t .ledger); frames = bookChange ws (t .frames) }))
+    changed : (ws touches : List FrameBytes) (o : ℕ) (x : Row) → blankFrames ws ≡ touches → All (WholeFrame area blocks) ws → 0 < entryCount (changeFrames ws (meaningOf l .current))
+        → SameRows (applyChanges ws (t .frames .present)) (update o x (t .rows))
+        → Agrees (frames.change ws) done (answers done (record { rows = update o x (t .rows); changed = true; ledger = afterChange touches (t .ledger); frames = bookChange ws (t .frames) }))
     unfolding frames.doneWrite frames.doneAnswer frames.after told
-    changed ws touches o x e whole rows = record {
+    changed ws touches o x e whole noted rows = record {
       asked = rw (b .follows .area-is, b .follows .blocks-is) whole;
       answer-is = refl;
       write-is = refl;
       frames-are = refl;
       ledger-is = rw (b .ledger-is, ← e) (blank-change (meaningOf l) ws);
+      changed-is = unfold afterChange in (sym (lt-ltb 0 _ noted));
+      marked-is = unfold afterChange in (b .marked-is);
       rows-are = rows;
       long = changes-long rs blocks area full ws (t .frames .present) whole (b .long);
     }
@@ -143,9 +160,9 @@ module _ (rs : List Range) (blocks area : ℕ) (full : blocks ≡ 1 + area + all
       unfolding rescindChanges
       rescind-frames = rescind-same (presentFrames l) present p pot-is
 
-      row-touches : (at : ℕ) (new : List ℕ) (empty : Bool)
-          → blankFrames (cond empty [] (writeFrames present p at new)) ≡ cond empty [] (touched (p .page) ∷ cond (t .rows o .zero) (touched (p .pot) ∷ []) [])
-      row-touches at new empty = rw (← row-zero) (write-touches present p at new empty)
+      row-touches : (at : ℕ) (new : List ℕ) (nothing : Bool)
+          → blankFrames (cond nothing [] (writeFrames present p at new)) ≡ cond nothing [] (touched (p .page) ∷ cond (t .rows o .zero) (touched (p .pot) ∷ []) [])
+      row-touches at new nothing = rw (← row-zero) (write-touches present p at new nothing)
 
       write-room : (at : ℕ) (new : List ℕ) → roomAsks (writeChanges l at new p) (meaningOf l) ≡ roomSums (writeTouches (t .rows o) new p) (t .ledger)
       unfolding writeChanges writeTouches
@@ -172,24 +189,31 @@ module _ (rs : List Range) (blocks area : ℕ) (full : blocks ≡ 1 + area + all
       unfolding writeChanges plainWrite writeTouches
       write-agrees at new short = rw (write-frames at new) (go (eqb (length new) 0))
         where
+          noted : 0 < entryCount (changeFrames (writeFrames present p at new) (meaningOf l .current))
+          noted = unfold writeFrames in (change-notes _ _ _)
+
           own : rowOf (applyChanges (writeFrames present p at new) present) p ≡ record { page = written at new (t .rows o .page); zero = false }
           own = write-row present p two pot-long (inside .entry-high) at new ∙ ap (λ (x : Page). record { page = written at new x; zero = false }) row-page
 
-          go : (empty : Bool) → Agrees (frames.change (cond empty [] (writeFrames present p at new))) done (answers done (cond empty t (record {
+          go : (nothing : Bool) → Agrees (frames.change (cond nothing [] (writeFrames present p at new))) done (answers done (cond nothing t (record {
             rows = update o (record { page = written at new (t .rows o .page); zero = false }) (t .rows);
-            ledger = afterChange (cond empty [] (touched (p .page) ∷ cond (t .rows o .zero) (touched (p .pot) ∷ []) [])) (t .ledger);
+            changed = true;
+            ledger = afterChange (cond nothing [] (touched (p .page) ∷ cond (t .rows o .zero) (touched (p .pot) ∷ []) [])) (t .ledger);
             frames = bookChange (writeFrames present p at new) (t .frames);
           })))
           go true = unchanged done done refl
-          go false = changed (writeFrames present p at new) _ o _ (row-touches at new false) (write-whole area blocks present p inside pot-long page-long at new short)
+          go false = changed (writeFrames present p at new) _ o _ (row-touches at new false) (write-whole area blocks present p inside pot-long page-long at new short) noted
               (rows-changed _ _ own (write-other present p two pot-long (inside .entry-high) at new))
 
       rescind-agrees : t .rows o .page .count < 4294967295 → Agrees (frames.change (rescindChanges l p)) done (answers done (plainRescind o t p))
       unfolding plainRescind
       rescind-agrees limit = rw rescind-frames
-          (changed (rescindFrames present p) (rescindTouches p) o _ (rescind-touches present p) (rescind-whole area blocks present p inside pot-long)
+          (changed (rescindFrames present p) (rescindTouches p) o _ (rescind-touches present p) (rescind-whole area blocks present p inside pot-long) noted
           (rows-changed _ _ own (rescind-other present p two pot-long (inside .entry-high))))
         where
+          noted : 0 < entryCount (changeFrames (rescindFrames present p) (meaningOf l .current))
+          noted = unfold rescindFrames in (change-notes _ _ _)
+
           few : countAt (present (p .pot)) (p .entry) < 4294967295
           few = unfold pageOf in (omega (arith, ap (λ (x : Page). x .count) row-page))
 
@@ -207,9 +231,25 @@ module _ (rs : List Range) (blocks area : ℕ) (full : blocks ≡ 1 + area + all
           write-is = rw e (ap (λ (w : BlockWrite). some w) block-is);
           frames-are = rw e;
           ledger-is = rw (e, b .ledger-is) (blank-kind (meaningOf l) k);
+          changed-is = rw (e, kind-current k (meaningOf l)) (b .changed-is);
+          marked-is = rw e (kind-marked k (meaningOf l) (t .frames) (b .marked-is));
           rows-are = rw (wrote-present k (t .frames)) (b .rows-are);
           long = rw (wrote-present k (t .frames)) (b .long);
         }
+
+    -- ---- snapshot
+
+    snapshot-asks : snapshotAsks (meaningOf l) ≡ plainAsks snapshot t
+    unfolding snapshotAsks plainAsks blank
+    snapshot-asks = rw (b .marked-is, b .changed-is, b .ledger-is)
+
+    -- 17 is passed: what is pending then has entries
+    snapshot-pending : firstNo (snapshotAsks (meaningOf l)) ≡ 0 → nonePending (afterSnapshot (meaningOf l)) ≡ false
+    unfolding snapshotAsks afterSnapshot
+    snapshot-pending own =
+        let rest = passed-both 15 (nonePending (meaningOf l)) _ own .1 in
+        let noted : 0 < entryCount (meaningOf l .current) = ltb-true _ _ (passed-both 16 (someChange (meaningOf l)) _ rest .0) in
+        ne-eqb (entryCount (meaningOf l .current)) 0 (omega (arith, noted))
 
     -- ---- any call but start
 
@@ -220,8 +260,8 @@ module _ (rs : List Range) (blocks area : ℕ) (full : blocks ≡ 1 + area + all
     same-asks (read o n x) k = rw (address-is o, plain-address o) (placed-same (locate rs (1 + area) o) _ _ (λ p e. rw (count-same o p e)))
     same-asks (write o n at new) k = rw (address-is o, plain-address o) (placed-same (locate rs (1 + area) o) _ _ (λ p e. rw (count-same o p e, write-room o p e at new)))
     same-asks (rescind o n) k = rw (address-is o, plain-address o) (placed-same (locate rs (1 + area) o) _ _ (λ p e. rw (count-same o p e, rescind-room o p e)))
-    same-asks snapshot k = rw (b .ledger-is) (sym (blank-snapshotAsks (meaningOf l)))
-    same-asks pageOut k = rw (b .ledger-is) (sym (blank-pageOutAsks (meaningOf l)))
+    same-asks snapshot k = snapshot-asks
+    same-asks pageOut k = waiting-is (meaningOf l) t (b .ledger-is)
     same-asks advance k = advance-is (meaningOf l) t (b .ledger-is)
 
     pub agrees : (c : Call) → Later c → firstNo (ownAsks c l) ≡ 0 → Agrees (frameCall c l) (doneAnswer c l) (plainDone c t)
@@ -234,23 +274,21 @@ module _ (rs : List Range) (blocks area : ℕ) (full : blocks ≡ 1 + area + all
         let q = found-place (addressOf l o) _ own in
         unchanged _ _ (rw (q .1) (ap (filled 0) (bytes-same o (q .0) (sym (address-is o) ∙ q .1))))
     agrees (write o n at new) k own =
-        let q = found-place (addressOf l o) _ own in
-        let e : locate rs (1 + area) o ≡ Located (q .0) = sym (address-is o) ∙ q .1 in
-        let counts = passed-both 9 (eqb (presentCount l (q .0)) n) _ (q .2) in
-        rw (address-is o, plain-address o, e) (write-agrees o (q .0) e at new (leb-true _ _ (passed-both 10 (leb (at + length new) 512) _ (counts .1) .0)))
+        let q = write-passed l o n at new own in
+        let e : locate rs (1 + area) o ≡ Located (q .place) = sym (address-is o) ∙ q .place-is in
+        rw (address-is o, plain-address o, e) (write-agrees o (q .place) e at new (q .short))
     agrees (rescind o n) k own =
-        let q = found-place (addressOf l o) _ own in
-        let e : locate rs (1 + area) o ≡ Located (q .0) = sym (address-is o) ∙ q .1 in
-        let counts = passed-both 9 (eqb (presentCount l (q .0)) n) _ (q .2) in
-        let limit = passed-both 14 (ltb n 4294967295) _ (counts .1) in
-        rw (address-is o, plain-address o, e)
-        (rescind-agrees o (q .0) e (omega (arith, count-same o (q .0) e, eqb-true (presentCount l (q .0)) n (counts .0), ltb-true n 4294967295 (limit .0))))
+        let q = rescind-passed l o n own in
+        let e : locate rs (1 + area) o ≡ Located (q .place) = sym (address-is o) ∙ q .place-is in
+        rw (address-is o, plain-address o, e) (rescind-agrees o (q .place) e (omega (arith, count-same o (q .place) e, q .count-is, q .few)))
     agrees snapshot k own = record {
       asked = tt;
       answer-is = refl;
       write-is = unfold frames.doneWrite in refl;
       frames-are = unfold frames.doneAnswer told in refl;
       ledger-is = unfold frames.after in (rw (b .ledger-is) (blank-snapshot (meaningOf l)));
+      changed-is = unfold frames.after afterSnapshot empty in refl;
+      marked-is = unfold frames.after in (sym (snapshot-pending own));
       rows-are = b .rows-are;
       long = b .long;
     }
@@ -260,6 +298,8 @@ module _ (rs : List Range) (blocks area : ℕ) (full : blocks ≡ 1 + area + all
       write-is = unfold frames.doneWrite in (ap (λ (w : BlockWrite). some w) (out-is (meaningOf l) t (b .ledger-is) blocks area rs (l .card) (b .follows) own));
       frames-are = unfold told in refl;
       ledger-is = unfold frames.after in (rw (b .ledger-is) (blank-pageOut (meaningOf l)));
+      changed-is = unfold frames.after in (b .changed-is ∙ sym (out-keeps (meaningOf l) .1));
+      marked-is = unfold frames.after in (b .marked-is ∙ sym (out-keeps (meaningOf l) .0));
       rows-are = b .rows-are;
       long = b .long;
     }

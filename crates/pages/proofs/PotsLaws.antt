@@ -12,7 +12,7 @@ use native.Mathlib.Numerals.{add-one}
 use native.Mathlib.Omega.{arith}
 use Rattle.card.proofs.AddressLaws.{In}
 use Rattle.card.proofs.BlockLaws.{put-length, put-same, put-other}
-use Rattle.card.proofs.BytesLaws.{tab-start, tab-end, tab-snoc, tab-same, Filled}
+use Rattle.card.proofs.BytesLaws.{tab-start, tab-end, tab-snoc}
 use Rattle.card.proofs.CheckpointLaws.{whole-tells}
 use Rattle.card.proofs.PotLaws.{freshPot-length}
 use Rattle.card.proofs.RangeLaws.{range-next, geometry-tells}
@@ -24,12 +24,12 @@ use Rattle.pages.specs.Page.{putPots}
 
 -- ---- the card that they leave
 
-pub putPots-join : (c ms ns : List ℕ) → putPots c (ms ++ ns) ≡ putPots (putPots c ms) ns
+putPots-join : (c ms ns : List ℕ) → putPots c (ms ++ ns) ≡ putPots (putPots c ms) ns
 unfolding putPots
 putPots-join c [] ns = refl
 putPots-join c (m ∷ ms) ns = putPots-join (putBlock c m freshPot) ms ns
 
-pub putPots-snoc : (c ns : List ℕ) (n : ℕ) → putPots c (ns ++ (n ∷ [])) ≡ putBlock (putPots c ns) n freshPot
+putPots-snoc : (c ns : List ℕ) (n : ℕ) → putPots c (ns ++ (n ∷ [])) ≡ putBlock (putPots c ns) n freshPot
 unfolding putPots
 putPots-snoc c ns n = putPots-join c ns (n ∷ [])
 
@@ -71,11 +71,6 @@ module _ (blocks : ℕ) where
 
 -- ---- what code puts
 
--- the numbers of n ranges, copied
-pub ranges-copied : (numbers r : List ℕ) (n m : ℕ) → 2 * n ≤ m → Filled (λ k. getD numbers k 0) m r → rangesOf r n ≡ rangesOf numbers n
-unfolding rangesOf
-ranges-copied numbers r n m few copied = tab-same (rangeIn r) (rangeIn numbers) 0 n (λ i low high. rw (copied (2 * i) (omega arith), copied (2 * i + 1) (omega arith)))
-
 -- one more pot of a range
 pub pots-more : (before card pot : List ℕ) (start i : ℕ) → pot ≡ freshPot → card ≡ putPots before (tabulate (λ k. start + 103 * k) 0 i)
     → putBlock card (start + 103 * i) pot ≡ putPots before (tabulate (λ k. start + 103 * k) 0 (i + 1))
@@ -86,19 +81,16 @@ pots-more before card pot start i fresh e =
 pub record PotsLeft (numbers : List ℕ) (count start : ℕ) (before : List ℕ) (i at : ℕ) (card : List ℕ) : Type 0 where
   pub same : length card ≡ length before
   pub full : length card ≡ 512 * (at + allBlocks (tabulate (rangeIn numbers) i (count - i)))
-  pub small : at + allBlocks (tabulate (rangeIn numbers) i (count - i)) ≤ 65536
   pub pots : putPots card (allPots (tabulate (rangeIn numbers) i (count - i)) at) ≡ putPots before (allPots (rangesOf numbers count) start)
 
 pub left-all : (numbers : List ℕ) (count area : ℕ) (before : List ℕ) → whole 11 65536 (length before) ≡ true → geometryFits (length before / 512) area (rangesOf numbers count) ≡ true
     → PotsLeft numbers count (1 + area) before 0 (1 + area) before
 unfolding rangesOf
 left-all numbers count area before w g =
-    let blocks = whole-tells 11 65536 (length before) w in
     let full = geometry-tells (length before / 512) area (tabulate (rangeIn numbers) 0 count) g .full in
     record {
       same = refl;
-      full = rw (tab-start (rangeIn numbers) count) (omega (arith, blocks .0));
-      small = rw (tab-start (rangeIn numbers) count) (omega (arith, blocks .1 .1));
+      full = rw (tab-start (rangeIn numbers) count) (omega (arith, whole-tells 11 65536 (length before) w .0));
       pots = rw (tab-start (rangeIn numbers) count);
     }
 
@@ -107,12 +99,11 @@ module _ {numbers : List ℕ} {count start : ℕ} {before : List ℕ} {i at : �
     next : tabulate (rangeIn numbers) i (count - i) ≡ record { oid = getD numbers (2 * i) 0; pages = pages } ∷ tabulate (rangeIn numbers) (i + 1) (count - (i + 1))
     next = range-next numbers i count (getD numbers (2 * i) 0) pages more refl is
 
-    ends : (length card ≡ 512 * (at + (rangeBlocks pages + allBlocks (tabulate (rangeIn numbers) (i + 1) (count - (i + 1))))))
-        × (at + (rangeBlocks pages + allBlocks (tabulate (rangeIn numbers) (i + 1) (count - (i + 1)))) ≤ 65536)
-    ends = (rw next at (left .full), rw next at (left .small))
+    ends : length card ≡ 512 * (at + (rangeBlocks pages + allBlocks (tabulate (rangeIn numbers) (i + 1) (count - (i + 1)))))
+    ends = rw next at (left .full)
 
     -- the range's blocks are on the card
-    pub left-fits : (512 * (at + rangeBlocks pages) ≤ length card) × (at + rangeBlocks pages ≤ 65536)
+    pub left-fits : 512 * (at + rangeBlocks pages) ≤ length card
     left-fits = omega (arith, ends)
 
     -- its pots put
@@ -122,7 +113,6 @@ module _ {numbers : List ℕ} {count start : ℕ} {before : List ℕ} {i at : �
     left-next card′ long put = record {
       same = long ∙ left .same;
       full = omega (arith, ends);
-      small = omega (arith, ends);
       pots = rw put (sym (putPots-join card (tabulate (λ k. at + 103 * k) 0 (potCount pages)) _) ∙ rw (next, allPots) at (left .pots));
     }
 

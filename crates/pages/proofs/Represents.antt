@@ -1,6 +1,6 @@
 -- The book of frames and the book of pages tell the same, and each call keeps that.
 -- Assumes nothing.
-use Prim.Native.Nat.{ℕ, _+_, _≤_, _<_}
+use Prim.Native.Nat.{ℕ, _+_, _/_, _≤_, _<_}
 use borrow.Author.Tests.{eqb-true, eq-eqb, ne-eqb}
 use lib.Dec.{eqb}
 use lib.ListN.{length}
@@ -14,9 +14,13 @@ use native.Mathlib.Omega.{arith}
 use Rattle.card.proofs.AddressLaws.{Within, lies, PlacesApart, places-apart}
 use Rattle.card.proofs.BytesLaws.{patch-length, patch-none, none-long, zeros-length}
 use Rattle.card.proofs.PotLaws.{putFlags-length, putCount-length}
+use Rattle.card.proofs.RangeLaws.{geometry-tells}
 use Rattle.card.proofs.Test.{byTest}
+use Rattle.card.specs.Block.{blockAt}
 use Rattle.card.specs.Bytes.{All}
+use Rattle.card.specs.Header.{headerOn}
 use Rattle.card.specs.Pot.{countAt}
+use Rattle.card.specs.Question.{firstNo, headerRanges}
 use Rattle.card.specs.Range.{Range, locate, allBlocks}
 use Rattle.card.specs.declared.range.Address.{Address}
 use Rattle.card.specs.declared.range.Lookup.the-variants.{Located}
@@ -24,8 +28,10 @@ use Rattle.pages.proofs.RowLaws.{rescind-row, rescind-other, write-row,
 use Rattle.pages.specs.Book.{Table, Book, update, presentTo, written, rescinded, headerReached}
 use Rattle.pages.specs.Page.{Page, flagged, pageBytes, pageOf, writeFrames, rescindPot, rescindFrames}
 use Rattle.pages.specs.Plain.{Row, rowOf}
+use Rattle.recovery.proofs.FrameTheorem.{accepted-stored, stored-geometry}
 use Rattle.recovery.specs.Book.{FrameBook, markedOr, applyChanges, bookChange, bookSnapshot, bookStart, bookHeader, WholeFrame}
 use Rattle.recovery.specs.Contents.{Contents, FrameBytes, overlay}
+use Rattle.recovery.specs.Questions.{startAsks}
 
 -- ---- the frames of a call are whole home frames
 
@@ -57,6 +63,10 @@ unfolding rescindFrames
 rescind-same u v p e = rw e
 
 -- ---- the two books
+
+-- on a card that start accepts, header, area and ranges take all blocks
+pub accepted-full : (m card : List ℕ) → firstNo (startAsks m card) ≡ 0 → length card / 512 ≡ 1 + headerOn (blockAt card 0) .area + allBlocks (headerRanges (headerOn (blockAt card 0)))
+accepted-full m card accepted = geometry-tells _ _ _ (stored-geometry _ _ _ card _ (accepted-stored m card accepted)) .full
 
 module _ (rs : List Range) (blocks area : ℕ) (full : blocks ≡ 1 + area + allBlocks rs) where
   -- what the frames show of each OID's page is as the table has it

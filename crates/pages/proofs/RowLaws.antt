@@ -1,7 +1,6 @@
 -- A write and a rescind change one page, and leave the others; of a pot they leave the seven other flag bits and every byte outside the page's entry.
 -- Assumes nothing.
 use Prim.Native.Nat.{ℕ, suc, _+_, _*_, _/_, _≤_, _<_}
-use borrow.Author.Tests.{eq-eqb}
 use lib.ListN.{length, getD}
 use mathlib.Core.Bool.{Bool, true, false, cond}
 use mathlib.Core.List.{List, [], _∷_}
@@ -18,14 +17,15 @@ use Rattle.card.specs.declared.range.Address.{Address}
 use Rattle.pages.specs.Book.{written, rescinded}
 use Rattle.pages.specs.Page.{flagged, pageBytes, pageOf, writeFrames, rescindPot, rescindFrames}
 use Rattle.pages.specs.Plain.{Row, rowOf}
-use Rattle.recovery.proofs.ContentsLaws.{overlay-without}
+use Rattle.recovery.proofs.ContentsLaws.{overlay-without, overlay-first}
+use Rattle.recovery.proofs.Sorted.{oldest}
 use Rattle.recovery.specs.Book.{applyChanges}
 use Rattle.recovery.specs.Contents.{Contents, FrameBytes, overlay}
 
 -- one frame changed
 hit : (w : FrameBytes) (v : Contents) → overlay (w ∷ []) v (w .frame) ≡ w .bytes
-unfolding overlay
-hit w v = rw (eq-eqb (w .frame) (w .frame) refl)
+unfolding oldest
+hit w v = overlay-first (w ∷ []) v (omega arith)
 
 miss : (w : FrameBytes) (v : Contents) (x : ℕ) → x ≢ w .frame → overlay (w ∷ []) v x ≡ v x
 miss w v x d = overlay-without (w ∷ []) v x (d, tt)

@@ -1,8 +1,8 @@
 -- From a list of page calls and cuts to a list of frame calls and cuts: beside each world of pages stands a world of frames, and their books tell the same.
 -- Assumes nothing.
 use Prim.Native.Nat.{ℕ, _+_, _/_, _≤_, _<_}
-use borrow.Author.Tests.{eqb-true, leb-true, ltb-true}
-use lib.Dec.{leb, ltb, eqb}
+use borrow.Author.Tests.{eqb-true}
+use lib.Dec.{eqb}
 use lib.ListN.{length}
 use mathlib.Core.Bool.{Bool, true, false, cond}
 use mathlib.Core.List.{List}
@@ -12,41 +12,33 @@ use mathlib.Core.Path.{_≡_, refl, ap, sym, _∙_, subst}
 use native.Mathlib.Decide.{ℕ-discrete}
 use native.Mathlib.Omega.{arith}
 use Rattle.card.proofs.AddressLaws.{Within}
-use Rattle.card.proofs.QuestionLaws.{passed-both, groups-passed, header-numbered, header-tells}
-use Rattle.card.proofs.RangeLaws.{geometry-tells}
 use Rattle.card.proofs.Test.{byTest}
-use Rattle.card.specs.Block.{blockAt, whole}
+use Rattle.card.specs.Block.{blockAt}
 use Rattle.card.specs.Bytes.{All}
 use Rattle.card.specs.Header.{headerOn}
-use Rattle.card.specs.Question.{firstNo, headerRanges, headerAsks, generationAsks, cardAsks}
+use Rattle.card.specs.Question.{firstNo, headerRanges}
 use Rattle.card.specs.Range.{Range, allBlocks, locate}
 use Rattle.card.specs.declared.range.Address.{Address}
 use Rattle.card.specs.declared.range.Lookup.the-variants.{Located}
 use Rattle.frames.proofs.KeepLaws as keep
-use Rattle.frames.proofs.ReadyLaws.{ready}
+use Rattle.frames.proofs.ReadyLaws.{has-frames, no-zeros}
 use Rattle.frames.proofs.Recovery.{frames-present, frames-hold}
 use Rattle.frames.proofs.Run as run
 use Rattle.frames.proofs.Run.{FrameWorld, FrameRun, goes, firstWorld, Serves}
 use Rattle.frames.specs.Promise as frames
-use Rattle.frames.specs.Promise.{Lent, common, FrameAnswer}
-use Rattle.pages.proofs.AnswerLaws.{ownAsks, asked-both, found-place, frames-asked, block-done, block-none, kept-done, kept-refused, lowered}
+use Rattle.frames.specs.Promise.{Lent, FrameAnswer}
+use Rattle.pages.proofs.AnswerLaws.{asked-both, write-passed, rescind-passed, frames-asked, block-done, block-none, kept-done, kept-refused, lowered}
 use Rattle.pages.proofs.BookLaws.{told-refused}
-use Rattle.pages.proofs.Represents.{write-whole, rescind-whole, write-same, rescind-same, Represents, represents-start, represents-snapshot, represents-header, nothing-represents, in-p, pot-long, page-long, write-represents, rescind-represents}
+use Rattle.pages.proofs.Represents.{write-whole, rescind-whole, write-same, rescind-same, accepted-full, Represents, represents-start, represents-snapshot, represents-header, nothing-represents, in-p, pot-long, page-long, write-represents, rescind-represents}
 use Rattle.pages.specs.Book.{Book, Event, called, cutIn, update, presentTo, written, rescinded, headerReached, isDone, isHeader, told, bookAfter}
 use Rattle.pages.specs.Demand3.{World, lentTo, ReachedIs, Step, calls, cutWithin, cutBetween, Run, ended, then}
 use Rattle.pages.specs.Page.{Page, pageBytes, pageOf, writeFrames, rescindFrames}
 use Rattle.pages.specs.Promise.{Call, start, key, read, write, rescind, snapshot, pageOut, advance, Answer, answered, addressOf, atPlace, presentFrames, presentCount, writeChanges, rescindChanges, asks, frameCall, doneAnswer, outcome, Kept}
-use Rattle.record.specs.Meaning.{zeroStore}
-use Rattle.record.specs.declared.store.Store.{Store}
 use Rattle.recovery.specs.Book.{FrameBook, applyChanges, bookChange, bookHeader, WholeFrame}
 use Rattle.recovery.specs.Contents.{FrameBytes}
 use Rattle.recovery.specs.Questions.{startAsks}
 use Rattle.recovery.specs.Step.{page, directory, trailer, migration, header}
 use Rattle.recovery.specs.Write.{BlockWrite, Left}
-
--- a record that passes question 1 has memory frames
-pub has-frames : (l : Lent) → firstNo (common l) ≡ 0 → 0 < l .store .frames
-has-frames l h = omega (arith, ready (l .store) (length (l .memory)) (length (l .card)) h .frames-low)
 
 -- a call that is done writes the block that its frame call writes
 write-is : (c : Call) (l : Lent) → firstNo (asks c l) ≡ 0 → outcome c l .write ≡ frames.outcome (frameCall c l) l .write
@@ -71,13 +63,8 @@ module _ (m₀ card₀ : List ℕ) (accepted : firstNo (startAsks m₀ card₀) 
   abbrev rs : List Range
   rs = headerRanges (headerOn (blockAt card₀ 0))
 
-  pub full : blocks ≡ 1 + area + allBlocks rs
-  unfolding startAsks cardAsks
-  full =
-      let a = passed-both 0 (whole 4 64 (length m₀)) _ accepted in
-      let b = passed-both 2 (whole 11 65536 (length card₀)) _ (a .1) in
-      let c = groups-passed (headerAsks blocks (headerOn (blockAt card₀ 0))) (generationAsks card₀) (header-numbered blocks (headerOn (blockAt card₀ 0))) (b .1) in
-      geometry-tells blocks area rs (header-tells blocks (headerOn (blockAt card₀ 0)) (c .0) .geometry) .full
+  abbrev full : blocks ≡ 1 + area + allBlocks rs
+  full = accepted-full m₀ card₀ accepted
 
   -- ---- the world of frames beside a world and a book of pages
 
@@ -99,10 +86,7 @@ module _ (m₀ card₀ : List ℕ) (accepted : firstNo (startAsks m₀ card₀) 
 
     module _ (l : Lent) (held : w .held ≡ some l) (some-frames : 0 < l .store .frames) where
       pub serves : Serves card₀ l
-      serves = ⊎-elim (λ z. absurd (no-zeros z)) (λ q. q) (frames-hold m₀ card₀ accepted (s .frames) (s .run) l (s .held-is ∙ held) .0)
-        where
-          no-zeros : l .store ≡ zeroStore → ⊥
-          no-zeros z = unfold zeroStore in (omega (arith, some-frames, ap (λ (t : Store). t .frames) z))
+      serves = ⊎-elim (λ z. absurd (no-zeros (l .store) some-frames z)) (λ q. q) (frames-hold m₀ card₀ accepted (s .frames) (s .run) l (s .held-is ∙ held) .0)
 
       pub address-is : (o : ℕ) → addressOf l o ≡ locate rs (1 + area) o
       address-is o = rw (serves .ranges-is, serves .area-is)
@@ -167,23 +151,20 @@ module _ (m₀ card₀ : List ℕ) (accepted : firstNo (startAsks m₀ card₀) 
 
     done-told : (l : Lent) (c : Call) → lentTo c w ≡ some l → firstNo (asks c l) ≡ 0
         → run.Asked (frameCall c l) l × Same (run.told (frameCall c l) (frames.doneAnswer (frameCall c l) l) book) (told (called c (doneAnswer c l)) b)
-    unfolding frameCall doneAnswer frames.doneAnswer told run.told isDone applyChanges ownAsks atPlace
+    unfolding frameCall doneAnswer frames.doneAnswer told run.told isDone applyChanges atPlace
     done-told l (start m) e ok = (tt, represents-start rs blocks area full book b (s .same))
     done-told l (key o) e ok = (tt, s .same)
     done-told l (read o n x) e ok = (tt, s .same)
     done-told l (write o n at new) e ok =
         let q = asked-both (write o n at new) l tt ok in
         let low = has-frames l (q .0) in
-        let f = found-place (addressOf l o) _ (q .1) in
-        let short = passed-both 10 (leb (at + length new) 512) _ (passed-both 9 (eqb (presentCount l (f .0)) n) _ (f .2) .1) .0 in
-        rw (f .1) (write-news l e low o (f .0) (sym (address-is l e low o) ∙ f .1) at new (leb-true _ _ short))
+        let f = write-passed l o n at new (q .1) in
+        rw (f .place-is) (write-news l e low o (f .place) (sym (address-is l e low o) ∙ f .place-is) at new (f .short))
     done-told l (rescind o n) e ok =
         let q = asked-both (rescind o n) l tt ok in
         let low = has-frames l (q .0) in
-        let f = found-place (addressOf l o) _ (q .1) in
-        let count = passed-both 9 (eqb (presentCount l (f .0)) n) _ (f .2) in
-        let few : n < 4294967295 = ltb-true _ _ (passed-both 14 (ltb n 4294967295) _ (count .1) .0) in
-        rw (f .1) (rescind-news l e low o (f .0) (sym (address-is l e low o) ∙ f .1) (rw (eqb-true _ n (count .0)) few))
+        let f = rescind-passed l o n (q .1) in
+        rw (f .place-is) (rescind-news l e low o (f .place) (sym (address-is l e low o) ∙ f .place-is) (rw (f .count-is) (f .few)))
     done-told l snapshot e ok = (tt, represents-snapshot rs blocks area full book b (s .same))
     done-told l pageOut e ok = (tt, s .same)
     done-told l advance e ok = (tt, header-news (frames.doneAnswer frames.advance l))

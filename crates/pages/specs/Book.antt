@@ -14,13 +14,13 @@ use Rattle.recovery.specs.Step.{page, directory, trailer, migration, header}
 abbrev pub Table : Type 0
 Table = ℕ → Page
 
--- what is present now, what the last snapshot marked, if its header is still to be written, and what a start would show
+-- what is present; what the last snapshot marked, until a header write reaches the card or a start empties it; what is kept
 pub record Book : Type 0 where
   pub present : Table
   pub marked : Option Table
   pub kept : Table
 
--- what the book is fed: a call with its answer; a cut in a call, with whether its header write reached the card; a cut between calls
+-- what the book is fed: a call with its answer; a cut in a call, with whether the header write being made, if any, reached the card; a cut between calls
 pub data Event : Type 0 where
   called : Call → Answer → Event
   cutIn : Call → (reached : Bool) → Event
@@ -44,7 +44,7 @@ written at new x = record { bytes = patch (x .bytes) at new; count = x .count }
 abbrev pub rescinded : Page → Page
 rescinded x = record { bytes = zeros; count = suc (x .count) }
 
--- a header write reached the card
+-- a header write reached the card: kept becomes marked, unless that is empty
 abbrev pub headerReached : Book → Book
 headerReached b = record { present = b .present; marked = none; kept = Option·getD (b .marked) (b .kept) }
 

@@ -1,16 +1,17 @@
 -- DEMAND 2, the statement.
 --
 -- Take any card that a start accepts, and any list of calls after it without a further start, each lent what the last one left. Then every answer is the plain
--- machine's: a table of pages and counts under document 01's questions, with a sum behind each number. And the card is the first one with the machine's blocks put
--- down in turn. No call is answered 1, 2 or 3.
+-- machine's: a table of pages and counts under document 01's questions, each number by a test or a sum of its own. And the card is the first one with the machine's
+-- blocks put down in turn. No call is answered 1, 2 or 3.
 -- Assumes nothing.
 use Prim.Native.Nat.{ℕ}
 use mathlib.Core.List.{List, [], _∷_}
 use mathlib.Core.Path.{_≡_}
-use Rattle.frames.specs.Promise.{Lent, lent, meaningOf}
+use Rattle.frames.specs.Promise.{Lent, lent}
 use Rattle.pages.specs.Plain.{Plain, plainOf, plainDoes}
 use Rattle.pages.specs.Promise.{Call, start, Answer, done, Kept}
 use Rattle.record.specs.Meaning.{zeroStore}
+use Rattle.recovery.specs.Step.{startState}
 use Rattle.recovery.specs.Write.{putDown}
 
 unfoldable pub plainAnswers : List Call → Plain → List Answer
@@ -33,4 +34,4 @@ pub data Calls : List Call → Lent → List Answer → Lent → Type 0 where
 abbrev pub Demand2 : Type 0
 Demand2 = (m card : List ℕ) (l₀ : Lent) → Kept (start m) (lent zeroStore m card) done l₀
     → (cs : List Call) → NoStart cs → (as′ : List Answer) (l : Lent) → Calls cs l₀ as′ l
-    → (as′ ≡ plainAnswers cs (plainOf (meaningOf l₀) card)) × (l .card ≡ plainCard cs (plainOf (meaningOf l₀) card) card)
+    → (as′ ≡ plainAnswers cs (plainOf (startState m card) card)) × (l .card ≡ plainCard cs (plainOf (startState m card) card) card)

@@ -2,12 +2,12 @@
 --
 -- Take any card, with any bytes, on which format reports done. Let any list of events follow: the eight calls with any arguments, done or refused by their own
 -- promises; a start with any memory, first, after a cut or at any time; a cut between two calls; a cut in a call, which leaves the block that the call writes old,
--- new or, unless it is block 0, with any bytes. Any number of each, in any order.
+-- new or, unless it is block 0, with any bytes. Any number of each, in any order. Each call is lent what the last one left; nobody else touches card, record or memory.
 --
 -- Then a start that is lent any 4 to 64 whole frames is done and writes nothing, and for every OID of the ranges key gives the count that the book keeps, and
 -- read with that key the bytes that it keeps: those of the last snapshot whose header write reached the card, or of format.
 -- Assumes nothing.
-use Prim.Native.Nat.{ℕ, _+_}
+use Prim.Native.Nat.{ℕ, _+_, _/_, _≤_, _<_}
 use lib.ListN.{length}
 use mathlib.Core.Bool.{Bool, true, false}
 use mathlib.Core.List.{List, [], _∷_}
@@ -15,13 +15,11 @@ use mathlib.Core.Logic.{_⊎_}
 use mathlib.Core.Option.{Option, none, some}
 use mathlib.Core.Path.{_≡_}
 use Rattle.card.specs.Block.{whole}
-use Rattle.card.specs.Range.{locate}
-use Rattle.card.specs.declared.range.Address.{Address}
-use Rattle.card.specs.declared.range.Lookup.the-variants.{Located}
+use Rattle.card.specs.Range.{rangeIn}
 use Rattle.frames.specs.Promise.{Lent, lent}
 use Rattle.pages.specs.Book.{Event, called, cutIn, cut, formatBook, bookAfter}
 use Rattle.pages.specs.Page.{Page}
-use Rattle.pages.specs.Promise.{Call, start, key, read, write, rescind, snapshot, pageOut, advance, Answer, done, counted, filled, outcome, Kept, rangesIn, FormatKept}
+use Rattle.pages.specs.Promise.{Call, start, key, read, write, rescind, snapshot, pageOut, advance, Answer, done, counted, filled, outcome, Kept, FormatKept}
 use Rattle.record.specs.Meaning.{zeroStore}
 use Rattle.recovery.specs.Write.{BlockWrite, Left, Reached}
 
@@ -58,6 +56,10 @@ pub data Run : List Event → World → World → Type 0 where
   ended : (w : World) → Run [] w w
   then : (e : Event) (es : List Event) (u v w : World) → Step e u v → Run es v w → Run (e ∷ es) u w
 
+-- an OID of the ranges that format was given as numbers: of range i, for some i
+abbrev pub OfRanges : List ℕ → ℕ → Type 0
+OfRanges numbers oid = (i : ℕ) × (i < length numbers / 2) × (rangeIn numbers i .oid ≤ oid) × (oid < rangeIn numbers i .oid + rangeIn numbers i .pages)
+
 -- key gives the page's count, and read with that key its bytes
 abbrev pub Shows : Lent → ℕ → Page → Type 0
 Shows l oid p = (a b : Answer) (l₁ l₂ : Lent) (buffer : List ℕ) → length buffer ≡ 512 → Kept (key oid) l a l₁ → Kept (read oid (p .count) buffer) l₁ b l₂
@@ -69,4 +71,4 @@ Demand3 = (area : ℕ) (numbers before card : List ℕ) → FormatKept area numb
     → (m : List ℕ) → whole 4 64 (length m) ≡ true
     → (a : Answer) (l : Lent) → Kept (start m) (lent zeroStore m (w .card)) a l
     → (a ≡ done) × (l .card ≡ w .card)
-    × ((oid : ℕ) (p : Address) → locate (rangesIn numbers) (1 + area) oid ≡ Located p → Shows l oid (bookAfter es formatBook .kept oid))
+    × ((oid : ℕ) → OfRanges numbers oid → Shows l oid (bookAfter es formatBook .kept oid))

@@ -1,9 +1,11 @@
--- The plain machine of demand 2: tables of pages and counts, and a ledger of numbers. It sees no card, no memory and no record.
+-- The plain machine of demand 2: tables of pages and counts, and a ledger of numbers. After start it sees no card, no memory and no record.
+-- With the calls it shares what a change, a snapshot, a page-out and each kind of advance make of a generation (recovery's Step, here without bytes), the place of an
+-- OID, the frames of a write and a rescind, and the blocks of directory and trailer. Its answers, its questions and the bytes of pages are its own.
 -- Assumes nothing.
 use Prim.Native.Nat.{ℕ, _+_}
 use lib.Dec.{leb, ltb, eqb}
 use lib.ListN.{length, replicate}
-use mathlib.Core.Bool.{Bool, true, false, cond}
+use mathlib.Core.Bool.{Bool, true, false, cond, _||_}
 use mathlib.Core.List.{List, [], _∷_}
 use mathlib.Core.Option.{Option, none, some}
 use Rattle.card.specs.Header.{headerBlock}
@@ -19,7 +21,6 @@ use Rattle.pages.specs.Promise.{Call, start, key, read, write, rescind, 
 use Rattle.recovery.specs.Book.{FrameBook, markedOr, bookChange, bookSnapshot, bookWrote}
 use Rattle.recovery.specs.Contents.{Contents, FrameBytes}
 use Rattle.recovery.specs.Directory.{frameOf}
-use Rattle.recovery.specs.Questions.{snapshotAsks, pageOutAsks}
 use Rattle.recovery.specs.State.{Generation, State, readFrame}
 use Rattle.recovery.specs.Step.{pendingTo, currentTo, afterChange, afterSnapshot, Kind, page, directory, trailer, migration, header, tailWrite, trailerBlockNo, nextMigration, afterPageOut}
 use Rattle.recovery.specs.Sums.{roomSums, advanceSums, remainingWrites, firstOf}
@@ -33,9 +34,10 @@ pub record Row : Type 0 where
 unfoldable pub rowOf : Contents → Address → Row
 rowOf v p = record { page = pageOf v p; zero = flagged v p }
 
--- rows by OID, the ledger, and what frames hold: present, marked, kept
+-- rows by OID, whether a page has changed since the last snapshot or start, the ledger, and what frames hold: present, marked, kept
 pub record Plain : Type 0 where
   pub rows : ℕ → Row
+  pub changed : Bool
   pub ledger : State
   pub frames : FrameBook
 
@@ -50,6 +52,7 @@ blank s = currentTo (blankGeneration (s .current)) (pendingTo (blankGeneration (
 unfoldable pub plainOf : State → List ℕ → Plain
 plainOf s c = record {
   rows = λ o. atPlace (record { page = record { bytes = []; count = 0 }; zero = false }) (locate (s .ranges) (1 + s .area) o) (rowOf (readFrame s c));
+  changed = false;
   ledger = blank s;
   frames = record { present = readFrame s c; marked = none; kept = readFrame s c };
 }
@@ -68,16 +71,20 @@ writeTouches r new p = cond (eqb (length new) 0) [] (touched (p .page) ∷ cond 
 abbrev pub rescindTouches : Address → List FrameBytes
 rescindTouches p = touched (p .pot) ∷ []
 
--- ---- questions: 9, 10, 11, 15 and k by the rows, 12 to 14 and 16 to 20 by the ledger's sums; never 1, 2 or 3
+-- ---- questions: 9, 10, 11, 15 and k by the rows, 12 to 14 and 20 by sums over the ledger, 16 to 19 by what is marked, changed, committed and waiting; never 1, 2 or 3
+
+abbrev pub isNone : Option Contents → Bool
+isNone none = true
+isNone (some v) = false
 
 unfoldable pub plainAsks : Call → Plain → List Question
-plainAsks (start m) t = []
+plainAsks (start m) t = []  -- the list has no start
 plainAsks (key o) t = placed (plainAddress t o) (λ p. [])
 plainAsks (read o n x) t = placed (plainAddress t o) (λ p. ask 10 (eqb (t .rows o .page .count) n) ∷ ask 11 (eqb (length x) 512) ∷ [])
 plainAsks (write o n at new) t = placed (plainAddress t o) (λ p. ask 10 (eqb (t .rows o .page .count) n) ∷ ask 11 (leb (at + length new) 512) ∷ roomSums (writeTouches (t .rows o) new p) (t .ledger))
 plainAsks (rescind o n) t = placed (plainAddress t o) (λ p. ask 10 (eqb (t .rows o .page .count) n) ∷ ask 15 (ltb n 4294967295) ∷ roomSums (rescindTouches p) (t .ledger))
-plainAsks snapshot t = snapshotAsks (t .ledger)
-plainAsks pageOut t = pageOutAsks (t .ledger)
+plainAsks snapshot t = ask 16 (isNone (t .frames .marked)) ∷ ask 17 (t .changed) ∷ ask 18 (ltb (t .ledger .commit) 4294967295) ∷ []
+plainAsks pageOut t = ask 19 (ltb 0 (length (t .ledger .pending .waiting)) || ltb 0 (length (t .ledger .current .waiting))) ∷ []
 plainAsks advance t = advanceSums (t .ledger)
 
 -- ---- blocks written: a page-out's is the next place, with what was marked or is present of its frame; M's is the frame's home, with what is kept of it
@@ -109,6 +116,7 @@ answers a t = record { answer = a; write = none; next = t }
 unfoldable pub plainWrite : ℕ → ℕ → List ℕ → Plain → Address → Plain
 plainWrite o at new t p = cond (eqb (length new) 0) t (record {
   rows = update o (record { page = written at new (t .rows o .page); zero = false }) (t .rows);
+  changed = true;
   ledger = afterChange (writeTouches (t .rows o) new p) (t .ledger);
   frames = bookChange (writeFrames (t .frames .present) p at new) (t .frames);
 })
@@ -116,6 +124,7 @@ plainWrite o at new t p = cond (eqb (length new) 0) t (record {
 unfoldable pub plainRescind : ℕ → Plain → Address → Plain
 plainRescind o t p = record {
   rows = update o (record { page = rescinded (t .rows o .page); zero = true }) (t .rows);
+  changed = true;
   ledger = afterChange (rescindTouches p) (t .ledger);
   frames = bookChange (rescindFrames (t .frames .present) p) (t .frames);
 }
@@ -125,17 +134,17 @@ plainAdvance none t = answers (refused 20) t
 plainAdvance (some k) t = record {
   answer = wrote k (plainKind k t .block);
   write = some (plainKind k t);
-  next = record { rows = t .rows; ledger = advanced (some k) (t .ledger); frames = bookWrote k (t .frames) };
+  next = record { rows = t .rows; changed = t .changed; ledger = advanced (some k) (t .ledger); frames = bookWrote k (t .frames) };
 }
 
 unfoldable pub plainDone : Call → Plain → PlainOutcome
-plainDone (start m) t = answers done t
+plainDone (start m) t = answers done t  -- the list has no start
 plainDone (key o) t = answers (counted (t .rows o .page .count)) t
 plainDone (read o n x) t = answers (filled 0 (t .rows o .page .bytes)) t
 plainDone (write o n at new) t = answers done (atPlace t (plainAddress t o) (plainWrite o at new t))
 plainDone (rescind o n) t = answers done (atPlace t (plainAddress t o) (plainRescind o t))
-plainDone snapshot t = answers done (record { rows = t .rows; ledger = afterSnapshot (t .ledger); frames = bookSnapshot (t .frames) })
-plainDone pageOut t = record { answer = done; write = some (plainPageOut t); next = record { rows = t .rows; ledger = afterPageOut (t .ledger); frames = t .frames } }
+plainDone snapshot t = answers done (record { rows = t .rows; changed = false; ledger = afterSnapshot (t .ledger); frames = bookSnapshot (t .frames) })
+plainDone pageOut t = record { answer = done; write = some (plainPageOut t); next = record { rows = t .rows; changed = t .changed; ledger = afterPageOut (t .ledger); frames = t .frames } }
 plainDone advance t = plainAdvance (firstOf (remainingWrites (t .ledger))) t
 
 unfoldable pub plainDoes : Call → Plain → PlainOutcome

@@ -24,7 +24,7 @@ use Rattle.recovery.specs.Questions.{startAsks, roomAsks, snapshotAsks, pageOut
 use Rattle.recovery.specs.State.{readFrame}
 use Rattle.recovery.specs.Step.{Kind}
 
--- the eight calls on a record; format stands apart
+-- the calls but format, which stands apart; an OID and a count are a key. Start's memory is the one that it is lent
 pub data Call : Type 0 where
   start : (memory : List ℕ) → Call
   key : (oid : ℕ) → Call
@@ -33,7 +33,7 @@ pub data Call : Type 0 where
   rescind : (oid count : ℕ) → Call
   snapshot pageOut advance : Call
 
--- `filled`: read's number, 0 where it is done, and its buffer after the call, refused or not
+-- refused with document 01's number; done; key's count; read's number, 0 where it is done, and its buffer after the call, refused or not; advance's kind and block
 pub data Answer : Type 0 where
   refused : (number : ℕ) → Answer
   done : Answer
@@ -61,10 +61,11 @@ unfoldable pub atPlace : {A : Type 0} → A → Lookup → (Address → A) → A
 atPlace other Outside f = other
 atPlace other (Located p) f = f p
 
--- what a load of each frame shows
+-- the newest bytes of each frame: of current, pending, committed, home
 abbrev pub presentFrames : Lent → Contents
 presentFrames l = readFrame (meaningOf l) (l .card)
 
+-- the present count of a page
 abbrev pub presentCount : Lent → Address → ℕ
 presentCount l p = countAt (presentFrames l (p .pot)) (p .entry)
 
@@ -81,6 +82,7 @@ rescindChanges l p = rescindFrames (presentFrames l) p
 abbrev pub placed : Lookup → (Address → List Question) → List Question
 placed a rest = atPlace (ask 9 false ∷ []) a rest
 
+-- document 01's questions, in its order
 unfoldable pub asks : Call → Lent → List Question
 asks (start m) l = startAsks m (l .card)
 asks (key o) l = common l ++ placed (addressOf l o) (λ p. [])
@@ -125,11 +127,11 @@ refusal snapshot k = refused k
 refusal pageOut k = refused k
 refusal advance k = refused k
 
--- only page-out and advance write a block
+-- number, answer, the block that it writes and the state that it leaves
 abbrev pub outcome : Call → Lent → Outcome Answer
 outcome c l = outcomeOf (firstNo (asks c l)) (doneAnswer c l) (refusal c (firstNo (asks c l))) (frames.doneWrite (frameCall c l) l) (frames.after (frameCall c l) l)
 
--- THE PROMISE of the eight calls on a record: of a call c that was lent l, answers a and leaves l′. Refused, it leaves all as lent, start the record of zeros.
+-- THE PROMISE of the calls but format: of a call c that was lent l, answers a and leaves l′. Refused, it leaves all as lent, start the record of zeros.
 abbrev pub Kept : Call → Lent → Answer → Lent → Type 0
 Kept c l a l′ = Keeps (outcome c l) (frames.handedBack (frameCall c l) l) l a l′
 

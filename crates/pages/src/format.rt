@@ -30,8 +30,8 @@ fn numbers(ranges: &[u32]) -> [u32; 16]
 }
 
 // The pots of one range, from its first block on.
-fn put_some(card: &mut [u8], start: usize, count: usize)
-    requires { ⌜ (512 * (start + 103 * count) ≤ length (now card) + 512 * 102) × (start + 103 * count ≤ 131072) ⌝ }
+fn put_range(card: &mut [u8], start: usize, count: usize)
+    requires { ⌜ 512 * (start + 103 * count) ≤ length (now card) + 512 * 102 ⌝ }
     ensures { λ _. ⌜ now (card .exit) ≡ putPots (now (card .entry)) (tabulate (λ i. start + 103 * i) 0 count) ⌝ }
 {
     let pot = pot::fresh();
@@ -43,7 +43,7 @@ fn put_some(card: &mut [u8], start: usize, count: usize)
 }
 
 // Every pot.
-fn put_all(card: &mut [u8], area: usize, numbers: &[u32; 16], count: usize)
+fn put_pots(card: &mut [u8], area: usize, numbers: &[u32; 16], count: usize)
     requires { ⌜ (whole 11 65536 (length (now card)) ≡ true) × ((count ≤ 8) × (geometryFits (length (now card) / 512) area (rangesOf (now numbers) count) ≡ true)) ⌝ }
     ensures { λ _. ⌜ now (card .exit) ≡ putPots (now (card .entry)) (allPots (rangesOf (now (numbers .entry)) count) (1 + area)) ⌝ }
 {
@@ -51,7 +51,7 @@ fn put_all(card: &mut [u8], area: usize, numbers: &[u32; 16], count: usize)
     let mut i = 0;
     while i < count {
         let pages = number::wide(numbers[2 * i + 1]);
-        put_some(card, at, (pages + 101) / 102);
+        put_range(card, at, (pages + 101) / 102);
         at = at + range::blocks(pages);
         i += 1;
     }
@@ -75,7 +75,7 @@ pub fn format(card: &mut [u8], area: usize, ranges: &[u32]) -> u32
     if !range::fits(card.len() / 512, area, &r, count) {
         return 5;
     }
-    put_all(card, area, &r, count);
+    put_pots(card, area, &r, count);
     let h = header::block(0, 0, area, &r, count);
     block::put(card, 0, &h);
     0

@@ -1,10 +1,10 @@
-// The page layer: nine calls on a store of pages, each with its key, count and zero flag. It rests on the frame layer's promise alone.
+// The page layer: nine calls on a store of pages, each with its OID, count and zero flag. It rests on the frame layer's promise, and reads the record's ranges.
 pub mod advance;
 pub mod answer;
 pub mod format;
-pub mod frame;
+mod frame;
 pub mod key;
-pub mod named;
+mod named;
 pub mod page_out;
 pub mod read;
 pub mod rescind;

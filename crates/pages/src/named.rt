@@ -16,8 +16,7 @@ ghost use Rattle.card.specs.Question.{ask, firstNo};
 ghost use Rattle.card.specs.Pot.{isZero, flagsAt};
 ghost use Rattle.frames.specs.Promise.{lent, commonAsks};
 ghost use Rattle.pages.specs.Page.{pageBytes};
-ghost use Rattle.pages.specs.Promise.{addressOf, presentFrames, presentCount, NamedIs};
-ghost use Rattle.card.specs.declared.range.Lookup.the-variants.{Located};
+ghost use Rattle.pages.specs.Promise.{presentFrames, presentCount, NamedIs};
 
 // Where it stands, and its pot's bytes. `refusal` is the number of the question that was answered "no", or 0.
 #[repr(C)]
@@ -97,9 +96,9 @@ pub fn is_zero(n: Named) -> bool
 }
 
 // Its bytes: an empty frame if the flag is set.
-pub fn bytes(s: Store, card: &[u8], memory: &[u8], n: Named, oid: u32) -> [u8; 512]
+pub fn bytes(s: Store, card: &[u8], memory: &[u8], n: Named) -> [u8; 512]
     requires { ⌜ (firstNo (commonAsks s (length (now memory)) (length (now card))) ≡ 0)
-        × ((addressOf (lent s (now memory) (now card)) oid ≡ Located (n .address)) × (n .pot ≡ presentFrames (lent s (now memory) (now card)) (n .address .pot))) ⌝ }
+        × ((n .address .page < s .geometry .blocks) × ((n .address .entry < 102) × (n .pot ≡ presentFrames (lent s (now memory) (now card)) (n .address .pot)))) ⌝ }
     ensures { λ r. ⌜ r ≡ pageBytes (presentFrames (lent s (now (memory .entry)) (now (card .entry)))) (n .address) ⌝ }
 {
     let mut page = block::empty();

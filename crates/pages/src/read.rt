@@ -22,7 +22,7 @@ pub fn read(s: Store, card: &[u8], memory: &[u8], oid: u32, count: u32, buffer: 
             store: s,
         };
     }
-    let page = named::bytes(s, card, memory, n, oid);
+    let page = named::bytes(s, card, memory, n);
     bytes::copy(&page, buffer);
     Done {
         answer: 0,

@@ -78,7 +78,7 @@ pub fn write(
             store: s,
         };
     }
-    let page = named::bytes(s, card, memory, n, oid);
+    let page = named::bytes(s, card, memory, n);
     let changed = patched(page, at, new);
     if named::is_zero(n) {
         let pot = cleared(n);

@@ -12,13 +12,13 @@ Inv-loop card₀ memory t₀ turns₀ card t turns = length card ≡ length card
 abbrev μ-loop : tie.MeasureT-loop
 μ-loop card₀ memory t₀ turns₀ card t turns = turns
 
-loop-again : tie.Need-loop-again Inv-loop μ-loop
-loop-again c =
+same-length : tie.Need-same-length Inv-loop μ-loop
+same-length c =
     let at-loop = c .before .before .before .before .before .before .before .before .loop in
     omega (arith, (c .before .before .before .before .before .advance .kept .1), (at-loop .inv))
 
-loop-again-2 : tie.Need-loop-again-2 Inv-loop μ-loop
-loop-again-2 c =
+loop-again : tie.Need-loop-again Inv-loop μ-loop
+loop-again c =
     let at-loop = c .before .before .before .before .before .before .before .before .loop in
     omega (arith, (c .before .before .before .before .before .advance .kept .1), (at-loop .inv))
 
@@ -30,11 +30,11 @@ advance-all-spec =
     μ-loop
     (λ c. refl)
     (λ c κs. tt)
-    (λ c. omega arith)
     (λ c κs. tt)
+    same-length
+    (λ c. tt)
+    (λ c. omega arith)
     (λ c. omega arith)
     loop-again
-    (λ c. omega arith)
-    loop-again-2
     (λ c. c .before .loop .inv)
     (λ c. tt))

@@ -34,8 +34,8 @@ returns-4 c =
     refuses-unfit (at-start .args .area) (now (at-start .args .ranges)) (now (at-start .args .card)) (said-yes (at-is-whole .ensures) (at-if1 .left))
     (rw (c .before .before .before .numbers .ensures) at (said-no (c .before .fits2 .ensures) (c .if4 .taken)))
 
-put-all-requires : tie.Need-put-all-requires
-put-all-requires c κs =
+put-pots-requires : tie.Need-put-pots-requires
+put-pots-requires c κs =
     let at-is-whole = c .before .before .before .before .before .before .before .before .before .is-whole in
     let at-if1 = c .before .before .before .before .before .before .before .before .if1 in
     (said-yes (at-is-whole .ensures) (at-if1 .left), (omega arith, said-yes (c .before .before .before .fits2 .ensures) (c .before .before .if4 .left)))
@@ -51,9 +51,9 @@ put-requires : tie.Need-put-requires
 put-requires c κs =
     let at-is-whole = c .before .before .before .before .before .before .before .before .before .before .before .before .before .before .before .before .is-whole in
     let at-if1 = c .before .before .before .before .before .before .before .before .before .before .before .before .before .before .before .if1 in
-    let at-put-all = c .before .before .before .before .before .before .put-all in
+    let at-put-pots = c .before .before .before .before .before .before .put-pots in
     let t = whole-tells _ _ _ (said-yes (at-is-whole .ensures) (at-if1 .left)) in
-    (omega (arith, t, at-put-all .kept .0), omega arith)
+    (omega (arith, t, at-put-pots .kept .0), omega arith)
 
 returns-5 : tie.Need-returns-5
 returns-5 c =
@@ -64,9 +64,9 @@ returns-5 c =
     let at-numbers = c .before .before .before .before .before .before .before .before .before .before .before .before .before .before .before .numbers in
     let at-fits2 = c .before .before .before .before .before .before .before .before .before .before .before .before .before .fits2 in
     let at-if4 = c .before .before .before .before .before .before .before .before .before .before .before .before .if4 in
-    let at-put-all = c .before .before .before .before .before .before .before .before .before .put-all in
+    let at-put-pots = c .before .before .before .before .before .before .before .before .before .put-pots in
     formats (at-start .args .area) (now (at-start .args .ranges)) (now (at-start .args .card)) (said-yes (at-is-whole .ensures) (at-if1 .left)) (at-if2 .left)
-    _ (at-numbers .ensures) (said-yes (at-fits2 .ensures) (at-if4 .left)) _ _ _ (at-put-all .ensures) (c .before .before .before .before .before .block .ensures) (c .before .before .put .ensures)
+    _ (at-numbers .ensures) (said-yes (at-fits2 .ensures) (at-if4 .left)) _ _ _ (at-put-pots .ensures) (c .before .before .before .before .before .block .ensures) (c .before .before .put .ensures)
 
 pub format-spec : {M : Type 1} → statement M
 format-spec =
@@ -79,7 +79,7 @@ format-spec =
     (λ c κs. search needs)
     (λ c κs. search needs)
     returns-4
-    put-all-requires
+    put-pots-requires
     block-requires
     (λ c. search needs)
     put-requires

@@ -6,7 +6,7 @@ use lib.ListN.{length, getD, length-set}
 use mathlib.Core.Path.{_≡_, refl}
 use native.Mathlib.Omega.{arith}
 use Rattle.card.proofs.BytesLaws.{Filled, filled-more}
-use Rattle.pages.proofs.PotsLaws.{ranges-copied}
+use Rattle.pages.proofs.FormatLaws.{ranges-copied}
 use Rattle.pages.proofs.format.numbers.Statement.{statement}
 use Rattle.pages.proofs.format.numbers.Tie as tie
 

@@ -6,7 +6,8 @@ use lib.ListN.{length, replicate, length-replicate}
 use mathlib.Core.List.{_++_}
 use mathlib.Core.Path.{_≡_}
 use native.Mathlib.Omega.{arith}
-use Rattle.pages.proofs.NamedLaws.{changing-first, changing-second, put-both}
+use Rattle.card.proofs.BlockLaws.{put-both}
+use Rattle.pages.proofs.NamedLaws.{changing-first, changing-second}
 use Rattle.pages.proofs.frame.change_two.Statement.{statement}
 use Rattle.pages.proofs.frame.change_two.Tie as tie
 

@@ -1,15 +1,15 @@
 // The whole run of document 01: a card of 11 blocks with an area of 8 and one page, OID 100.
 use record::store::Store;
 
-// Formatted and started.
-pub fn begin(card: &mut [u8], memory: &[u8]) -> Store {
-    pages::format::format(card, 8, &[100, 1]);
+// A card with one range from OID 100 on, formatted and started.
+pub fn begin(card: &mut [u8], memory: &[u8], area: usize, n: u32) -> Store {
+    pages::format::format(card, area, &[100, n]);
     let d = pages::start::start(card, memory);
     d.store
 }
 
-// Byte 7 at offset 0, and a snapshot.
-pub fn mark(s: Store, card: &[u8], memory: &mut [u8]) -> Store {
+// Byte 7 at offset 0 of page 100, and a snapshot.
+pub fn write_and_mark(s: Store, card: &[u8], memory: &mut [u8]) -> Store {
     let w = pages::write::write(s, card, memory, 100, 0, 0, &[7]);
     let d = pages::snapshot::snapshot(w.store, card, memory);
     d.store
@@ -29,7 +29,7 @@ fn advances(s: Store, card: &mut [u8], memory: &[u8], count: u32) -> Store {
 
 // The run up to so many advances: P 1, P 2, D 3, T 4, H 0, M 9, M 10.
 pub fn run(card: &mut [u8], memory: &mut [u8], count: u32) -> Store {
-    let s = begin(card, memory);
-    let t = mark(s, card, memory);
+    let s = begin(card, memory, 8, 1);
+    let t = write_and_mark(s, card, memory);
     advances(t, card, memory, count)
 }

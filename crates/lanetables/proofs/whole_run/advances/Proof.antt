@@ -1,10 +1,10 @@
--- `lanetables::day::advances` meets its contract. The loop ends, since `left` falls; the card keeps its length.
+-- `lanetables::whole_run::advances` meets its contract. The loop ends, since `left` falls; the card keeps its length.
 -- Assumes nothing.
 use lib.ListN.{length}
 use mathlib.Core.Path.{_≡_, refl}
 use native.Mathlib.Omega.{arith}
-use Rattle.lanetables.proofs.day.advances.Statement.{statement}
-use Rattle.lanetables.proofs.day.advances.Tie as tie
+use Rattle.lanetables.proofs.whole_run.advances.Statement.{statement}
+use Rattle.lanetables.proofs.whole_run.advances.Tie as tie
 
 abbrev Inv-loop : tie.InvT-loop
 Inv-loop card₀ memory count t₀ left₀ card t left = length card ≡ length card₀

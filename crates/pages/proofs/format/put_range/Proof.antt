@@ -1,4 +1,4 @@
--- `pages::format::put_some` meets its contract. The loop has put the first i pots.
+-- `pages::format::put_range` meets its contract. The loop has put the first i pots.
 -- Assumes nothing.
 use Prim.Native.Nat.{_+_, _-_, _*_, _≤_}
 use denote.Ref.{now}
@@ -8,8 +8,8 @@ use native.Mathlib.Omega.{arith}
 use Rattle.card.specs.Bytes.{tabulate}
 use Rattle.pages.proofs.PotsLaws.{pots-more}
 use Rattle.pages.specs.Page.{putPots}
-use Rattle.pages.proofs.format.put_some.Statement.{statement}
-use Rattle.pages.proofs.format.put_some.Tie as tie
+use Rattle.pages.proofs.format.put_range.Statement.{statement}
+use Rattle.pages.proofs.format.put_range.Tie as tie
 
 abbrev Inv-loop : tie.InvT-loop
 Inv-loop card₀ start count pot i₀ card i = (i ≤ count) × ((card ≡ putPots card₀ (tabulate (λ k. start + 103 * k) 0 i)) × (length card ≡ length card₀))
@@ -35,8 +35,8 @@ returns c =
     let e : c .before .loop .i ≡ c .before .before .before .before .args .count = omega arith in
     rw e at (c .before .loop .inv .1 .0)
 
-pub put-some-spec : {M : Type 1} → statement M
-put-some-spec =
+pub put-range-spec : {M : Type 1} → statement M
+put-range-spec =
     tie.close
     (tie.spec
     Inv-loop

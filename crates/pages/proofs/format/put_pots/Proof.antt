@@ -1,12 +1,12 @@
--- `pages::format::put_all` meets its contract. The loop has put the pots of the first i ranges; the next range starts at `at`.
+-- `pages::format::put_pots` meets its contract. The loop has put the pots of the first i ranges; the next range starts at `at`.
 -- Assumes nothing.
 use Prim.Native.Nat.{_+_, _-_, _≤_}
 use denote.Ref.{now}
 use native.Mathlib.Omega.{arith}
 use Rattle.card.proofs.RangeLaws.{geometry-tells}
 use Rattle.pages.proofs.PotsLaws.{PotsLeft, left-all, left-fits, left-next, left-none}
-use Rattle.pages.proofs.format.put_all.Statement.{statement}
-use Rattle.pages.proofs.format.put_all.Tie as tie
+use Rattle.pages.proofs.format.put_pots.Statement.{statement}
+use Rattle.pages.proofs.format.put_pots.Tie as tie
 
 abbrev Inv-loop : tie.InvT-loop
 Inv-loop card₀ area numbers count at₀ i₀ card at i = (i ≤ count) × PotsLeft numbers count (1 + area) card₀ i at card
@@ -19,8 +19,8 @@ add-at c =
     let t = geometry-tells _ _ _ (c .before .pre .1 .1) in
     omega (arith, t .area-high)
 
-put-some-requires : tie.Need-put-some-requires Inv-loop μ-loop
-put-some-requires c κs =
+put-range-requires : tie.Need-put-range-requires Inv-loop μ-loop
+put-range-requires c κs =
     let fits = left-fits (c .before .before .before .before .loop .inv .1) (c .before .wide .result) (c .before .wide .ensures .0) (omega arith) in
     omega (arith, fits)
 
@@ -35,11 +35,11 @@ loop-again : tie.Need-loop-again Inv-loop μ-loop
 loop-again c =
     let at-loop = c .before .before .before .before .before .before .before .before .loop in
     let at-wide = c .before .before .before .before .before .wide in
-    let p = c .before .before .before .put-some in
+    let p = c .before .before .before .put-range in
     (omega arith, rw (c .blocks2 .ensures) (left-next (at-loop .inv .1) (at-wide .result) (at-wide .ensures .0) (omega arith) _ (omega (arith, p .kept .0)) (p .ensures)))
 
-pub put-all-spec : {M : Type 1} → statement M
-put-all-spec =
+pub put-pots-spec : {M : Type 1} → statement M
+put-pots-spec =
     tie.close
     (tie.spec
     Inv-loop
@@ -52,7 +52,7 @@ put-all-spec =
     (λ c. omega arith)
     (λ c κs. omega arith)
     (λ c. omega (arith, c .before .wide .ensures .1))
-    put-some-requires
+    put-range-requires
     (λ c κs. c .before .before .before .before .wide .ensures .1)
     add-at-2
     (λ c. omega arith)
