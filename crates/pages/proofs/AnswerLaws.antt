@@ -1,17 +1,17 @@
 -- What a call answers by its first "no", and its promise beside that of the frame call that it comes to.
 -- Assumes nothing.
 use Prim.Native.Nat.{ℕ, _+_, _-_, _≤_, _<_}
-use borrow.Author.Tests.{eq-eqb, eqb-true, leb-true, ltb-true}
+use borrow.Author.Tests.{ltb-true, leb-true, eqb-true, eq-eqb}
 use lib.Dec.{leb, ltb, eqb}
-use lib.ListN.{length}
+use lib.ListN.{length, drop}
 use mathlib.Core.Bool.{Bool, true, false, cond}
-use mathlib.Core.List.{List, [], _∷_, _++_}
+use mathlib.Core.List.{List, [], _++_}
 use mathlib.Core.Logic.{_≢_}
 use mathlib.Core.Option.{none}
 use mathlib.Core.Path.{_≡_, refl, ap, sym, _∙_, subst}
 use native.Mathlib.Omega.{arith}
 use Rattle.card.proofs.QuestionLaws.{none-asked, asked-no, passed-both}
-use Rattle.card.specs.Question.{Question, ask, firstNo}
+use Rattle.card.specs.Question.{Question, firstNo}
 use Rattle.card.specs.declared.range.Address.{Address}
 use Rattle.card.specs.declared.range.Lookup.{Lookup}
 use Rattle.card.specs.declared.range.Lookup.the-variants.{Located, Outside}
@@ -21,7 +21,7 @@ use Rattle.frames.specs.Promise.{Lent, meaningOf, common, FrameAnswer, FrameKep
 use Rattle.pages.specs.Promise.{Call, start, key, read, write, rescind, snapshot, pageOut, advance, Answer, answered, addressOf, atPlace, presentCount, writeChanges, rescindChanges, placed, asks, frameCall, doneAnswer, refusal, outcome, Kept}
 use Rattle.record.specs.Holds.{holdsTogether}
 use Rattle.recovery.specs.Contents.{FrameBytes}
-use Rattle.recovery.specs.Questions.{newPlaces, roomAsks, snapshotAsks, pageOutAsks, advanceAsks}
+use Rattle.recovery.specs.Questions.{heldAsks, newPlaces, roomAsks}
 use Rattle.recovery.specs.State.{State, places}
 use Rattle.recovery.specs.Step.{changeFrames, afterChange}
 use Rattle.recovery.specs.Write.{putDown}
@@ -42,17 +42,10 @@ Later advance = Unit {0}
 
 -- what it is asked after 1 to 3
 unfoldable pub ownAsks : Call → Lent → List Question
-ownAsks (start m) l = []
-ownAsks (key o) l = placed (addressOf l o) (λ p. [])
-ownAsks (read o n x) l = placed (addressOf l o) (λ p. ask 10 (eqb (presentCount l p) n) ∷ ask 11 (eqb (length x) 512) ∷ [])
-ownAsks (write o n at new) l = placed (addressOf l o) (λ p. ask 10 (eqb (presentCount l p) n) ∷ ask 11 (leb (at + length new) 512) ∷ roomAsks (writeChanges l at new p) (meaningOf l))
-ownAsks (rescind o n) l = placed (addressOf l o) (λ p. ask 10 (eqb (presentCount l p) n) ∷ ask 15 (ltb n 4294967295) ∷ roomAsks (rescindChanges l p) (meaningOf l))
-ownAsks snapshot l = snapshotAsks (meaningOf l)
-ownAsks pageOut l = pageOutAsks (meaningOf l)
-ownAsks advance l = advanceAsks (meaningOf l)
+ownAsks c l = drop 3 (asks c l)
 
 asks-are : (c : Call) (l : Lent) → Later c → asks c l ≡ common l ++ ownAsks c l
-unfolding asks ownAsks
+unfolding asks ownAsks heldAsks
 asks-are (start m) l k = absurd k
 asks-are (key o) l k = refl
 asks-are (read o n x) l k = refl
@@ -90,7 +83,7 @@ pub record RescindPassed (l : Lent) (o n : ℕ) : Type 0 where
   pub room : firstNo (roomAsks (rescindChanges l place) (meaningOf l)) ≡ 0
 
 pub write-passed : (l : Lent) (o n at : ℕ) (new : List ℕ) → firstNo (ownAsks (write o n at new) l) ≡ 0 → WritePassed l o n at new
-unfolding ownAsks
+unfolding ownAsks asks heldAsks
 write-passed l o n at new e =
     let f = found-place (addressOf l o) _ e in
     let count = passed-both 9 (eqb (presentCount l (f .0)) n) _ (f .2) in
@@ -98,7 +91,7 @@ write-passed l o n at new e =
     record { place = f .0; place-is = f .1; count-is = eqb-true _ _ (count .0); short = leb-true _ _ (short .0); room = short .1 }
 
 pub rescind-passed : (l : Lent) (o n : ℕ) → firstNo (ownAsks (rescind o n) l) ≡ 0 → RescindPassed l o n
-unfolding ownAsks
+unfolding ownAsks asks heldAsks
 rescind-passed l o n e =
     let f = found-place (addressOf l o) _ e in
     let count = passed-both 9 (eqb (presentCount l (f .0)) n) _ (f .2) in

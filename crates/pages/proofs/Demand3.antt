@@ -30,7 +30,7 @@ use Rattle.pages.specs.Page.{Page, emptyPage, pageOf, formatCard}
 use Rattle.pages.specs.Promise.{start, key, read, Answer, done, counted, filled, addressOf, atPlace, presentFrames, asks, frameCall, doneAnswer, Kept, rangesIn, formatAsks, FormatKept}
 use Rattle.record.specs.Meaning.{zeroStore}
 use Rattle.recovery.proofs.FrameTheorem.{accepted-stored, stored-long}
-use Rattle.recovery.specs.Questions.{startAsks}
+use Rattle.recovery.specs.Questions.{startAsks, heldAsks}
 use Rattle.recovery.specs.State.{State, readFrame}
 use Rattle.recovery.specs.Step.{startState}
 use Rattle.frames.proofs.KeepLaws as keep
@@ -55,7 +55,7 @@ module _ (m₀ card₀ : List ℕ) (accepted : firstNo (startAsks m₀ card₀) 
     page-is = page-shown m₀ card₀ accepted w b s l held low o p at-p
 
     key-passes : firstNo (asks (key o) l) ≡ 0
-    unfolding ownAsks atPlace
+    unfolding ownAsks asks heldAsks atPlace
     key-passes = asked-own (key o) l tt passes ∙ rw place-is none-asked
 
     key-shows : (a : Answer) (l′ : Lent) → Kept (key o) l a l′ → (a ≡ counted (b .present o .count)) × (0 < l′ .store .frames)
@@ -65,7 +65,7 @@ module _ (m₀ card₀ : List ℕ) (accepted : firstNo (startAsks m₀ card₀) 
         (kept-done (key o) l l′ a k key-passes .0 ∙ rw place-is (ap (λ (x : Page). counted (x .count)) page-is), omega (arith, frames-is, low))
 
     read-passes : (buffer : List ℕ) → length buffer ≡ 512 → firstNo (asks (read o (b .present o .count) buffer) l) ≡ 0
-    unfolding ownAsks atPlace pageOf
+    unfolding ownAsks asks heldAsks atPlace pageOf
     read-passes buffer long = asked-own (read o (b .present o .count) buffer) l tt passes
         ∙ rw place-is (asked-yes 10 _ _ (eq-eqb _ _ (ap (λ (x : Page). x .count) page-is)) ∙ asked-yes 11 _ [] (eq-eqb _ _ long) ∙ none-asked)
 

@@ -29,12 +29,12 @@ use Rattle.pages.proofs.RowLaws.{rescind-row, rescind-other, write-row,
 use Rattle.pages.specs.Book.{update, written, rescinded}
 use Rattle.pages.specs.Page.{Page, flagged, pageBytes, pageOf, writeFrames, rescindFrames}
 use Rattle.pages.specs.Plain.{Row, rowOf, Plain, blank, plainAddress, touched, writeTouches, rescindTouches, isNone, plainAsks, plainKind, PlainOutcome, answers, plainWrite, plainRescind, plainAdvance, plainDone}
-use Rattle.pages.specs.Promise.{Call, start, key, read, write, rescind, snapshot, pageOut, advance, Answer, done, counted, filled, wrote, answered, addressOf, atPlace, presentFrames, presentCount, writeChanges, rescindChanges, placed, frameCall, doneAnswer}
+use Rattle.pages.specs.Promise.{Call, start, key, read, write, rescind, snapshot, pageOut, advance, Answer, done, counted, filled, wrote, answered, addressOf, atPlace, presentFrames, presentCount, writeChanges, rescindChanges, placed, asks, frameCall, doneAnswer}
 use Rattle.recovery.proofs.Follows.{Follows}
 use Rattle.recovery.proofs.FrameTheorem.{reads-present}
 use Rattle.recovery.specs.Book.{FrameBook, applyChanges, bookChange, bookWrote, WholeFrame}
 use Rattle.recovery.specs.Contents.{Contents, FrameBytes}
-use Rattle.recovery.specs.Questions.{roomAsks, snapshotAsks, given, advanceAsks}
+use Rattle.recovery.specs.Questions.{heldAsks, roomAsks, snapshotAsks, given, advanceAsks}
 use Rattle.recovery.specs.State.{entryCount, empty}
 use Rattle.recovery.specs.Step.{changeFrames, afterChange, afterSnapshot, Kind, page, directory, trailer, migration, header, kindWrite, advanceDue}
 use Rattle.recovery.specs.Sums.{roomSums}
@@ -254,7 +254,7 @@ module _ (rs : List Range) (blocks area : ℕ) (full : blocks ≡ 1 + area + all
     -- ---- any call but start
 
     pub same-asks : (c : Call) → Later c → ownAsks c l ≡ plainAsks c t
-    unfolding ownAsks plainAsks
+    unfolding ownAsks asks heldAsks plainAsks
     same-asks (start m) k = absurd k
     same-asks (key o) k = rw (address-is o, plain-address o)
     same-asks (read o n x) k = rw (address-is o, plain-address o) (placed-same (locate rs (1 + area) o) _ _ (λ p e. rw (count-same o p e)))
@@ -265,7 +265,7 @@ module _ (rs : List Range) (blocks area : ℕ) (full : blocks ≡ 1 + area + all
     same-asks advance k = advance-is (meaningOf l) t (b .ledger-is)
 
     pub agrees : (c : Call) → Later c → firstNo (ownAsks c l) ≡ 0 → Agrees (frameCall c l) (doneAnswer c l) (plainDone c t)
-    unfolding ownAsks frameCall doneAnswer plainDone atPlace
+    unfolding ownAsks asks heldAsks frameCall doneAnswer plainDone atPlace
     agrees (start m) k own = absurd k
     agrees (key o) k own =
         let q = found-place (addressOf l o) _ own in

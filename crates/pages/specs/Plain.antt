@@ -1,6 +1,6 @@
 -- The plain machine of demand 2: tables of pages and counts, and a ledger of numbers. After start it sees no card, no memory and no record.
 -- With the calls it shares what a change, a snapshot, a page-out and each kind of advance make of a generation (recovery's Step, here without bytes), the place of an
--- OID, the frames of a write and a rescind, and the blocks of directory and trailer. Its answers, its questions and the bytes of pages are its own.
+-- OID (question 9), the frames of a write and a rescind, and the blocks of directory and trailer. Its answers, its other questions and the bytes of pages are its own.
 -- Assumes nothing.
 use Prim.Native.Nat.{ℕ, _+_}
 use lib.Dec.{leb, ltb, eqb}
@@ -71,7 +71,7 @@ writeTouches r new p = cond (eqb (length new) 0) [] (touched (p .page) ∷ cond 
 abbrev pub rescindTouches : Address → List FrameBytes
 rescindTouches p = touched (p .pot) ∷ []
 
--- ---- questions: 9, 10, 11, 15 and k by the rows, 12 to 14 and 20 by sums over the ledger, 16 to 19 by what is marked, changed, committed and waiting; never 1, 2 or 3
+-- ---- questions: 9 by the ranges, 10, 11, 15 and k by the rows, 12 to 14 and 20 by sums over the ledger, 16 to 19 by what is marked, changed, committed and waiting; never 1, 2 or 3
 
 abbrev pub isNone : Option Contents → Bool
 isNone none = true

@@ -106,7 +106,7 @@ frameCall snapshot l = frames.snapshot
 frameCall pageOut l = frames.pageOut
 frameCall advance l = frames.advance
 
--- what it answers where it is done, and where it is refused
+-- what it answers where it is done (without a place, 9 has refused it), and where it is refused
 unfoldable pub doneAnswer : Call → Lent → Answer
 doneAnswer (start m) l = done
 doneAnswer (key o) l = atPlace (refused 9) (addressOf l o) (λ p. counted (presentCount l p))
