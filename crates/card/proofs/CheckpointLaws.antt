@@ -111,13 +111,13 @@ module _ {c : List ℕ} {h : Header} (ok : HeaderPassed c h) where
     pub directory-bounds : trailerFits h t ≡ true → (t .first ≤ h .area) × ((t .pages + dirBlocks (t .entries) ≤ h .area) × (t .entries ≤ 256))
     directory-bounds q = omega (arith, trailer-tells h t q, passed-area .0)
 
-    -- the directory that the trailer tells of, as code reads it
-    module _ (d : Directory) (count : d .count ≡ t .entries) (read : entriesOf (d .frames) (d .blocks) (t .entries) ≡ readDir c (h .area) (t .first) (t .pages) (t .entries)) where
-      pub directory-is : entriesOf (d .frames) (d .blocks) (d .count) ≡ entriesOn c
-      directory-is = rw count (read ∙ sym entries-are)
+    -- 8 is asked last
+    pub last-asked : (b : Bool) → trailerFits h t ≡ true → entriesFit (length c / 512) (h .area) (t .first) (t .pages) (h .area) (readDir c (h .area) (t .first) (t .pages) (t .entries)) ≡ b
+        → firstNo (cardAsks c) ≡ cond b 0 8
+    unfolding firstNo
+    last-asked b q f = committed-asked ∙ rw (q, f)
 
-      -- 8 is asked last
-      pub last-asked : (b : Bool) → trailerFits h t ≡ true → entriesFit (length c / 512) (h .area) (t .first) (t .pages) (h .area) (entriesOf (d .frames) (d .blocks) (d .count)) ≡ b
-          → firstNo (cardAsks c) ≡ cond b 0 8
-      unfolding firstNo
-      last-asked b q f = committed-asked ∙ rw (q, rw (directory-is, entries-are) at f)
+    -- the directory that the trailer tells of, as code reads it
+    pub directory-is : (d : Directory) → d .count ≡ t .entries → entriesOf (d .frames) (d .blocks) (t .entries) ≡ readDir c (h .area) (t .first) (t .pages) (t .entries)
+        → entriesOf (d .frames) (d .blocks) (d .count) ≡ entriesOn c
+    directory-is d count read = rw count (read ∙ sym entries-are)

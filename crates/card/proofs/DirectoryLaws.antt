@@ -120,6 +120,5 @@ entries-filled fs bs f n p q = tab-same (entryIn fs bs) f 0 n
     (λ i a b. let x = p i (omega arith) in let y = q i (omega arith) in λ j. record { frame = x j; block = y j })
 
 -- one turn of a loop over entries
-pub entry-next : (fs bs : List ℕ) (i n f b : ℕ) → i < n → f ≡ getD fs i 0 → b ≡ getD bs i 0
-    → tabulate (entryIn fs bs) i (n - i) ≡ record { frame = f; block = b } ∷ tabulate (entryIn fs bs) (i + 1) (n - (i + 1))
-entry-next fs bs i n f b h p q = rw (p, q) (tab-more (entryIn fs bs) i n h)
+pub entry-next : (f : ℕ → Entry) (i n x y : ℕ) → i < n → x ≡ f i .frame → y ≡ f i .block → tabulate f i (n - i) ≡ record { frame = x; block = y } ∷ tabulate f (i + 1) (n - (i + 1))
+entry-next f i n x y h p q = rw (p, q) (tab-more f i n h)

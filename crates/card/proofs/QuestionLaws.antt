@@ -1,7 +1,7 @@
 -- Laws of the first "no", of question 8 asked entry by entry, and what questions 4 to 7 tell.
 -- Assumes nothing.
 use Prim.Native.Nat.{ℕ, suc, _+_, _-_, _≤_, _<_}
-use borrow.Author.Tests.{leb-true, eqb-true, ne-eqb}
+use borrow.Author.Tests.{leb-true, ltb-true, eqb-true, ne-eqb}
 use lib.Dec.{leb, ltb, eqb}
 use mathlib.Core.Bool.{Bool, true, false, cond, _&&_}
 use mathlib.Core.List.{List, [], _∷_, _++_}
@@ -69,9 +69,12 @@ groups-passed ps qs n h = go (ℕ-discrete (firstNo ps) 0)
 
 -- ---- question 8
 
+-- of one entry: low is the frame before it
+abbrev entryFits : ℕ → ℕ → ℕ → ℕ → ℕ → ℕ → ℕ → Bool
+entryFits blocks area first p low frame block = ltb low frame && (ltb frame blocks && (leb 1 block && (leb block area && ltb (ringOffset area first block) p)))
+
 module _ (blocks area first p low : ℕ) (e : Entry) (es l : List Entry) (n : l ≡ e ∷ es) where
-  fit-is : entriesFit blocks area first p low l
-      ≡ (ltb low (e .frame) && (ltb (e .frame) blocks && (leb 1 (e .block) && (leb (e .block) area && ltb (ringOffset area first (e .block)) p)))) && entriesFit blocks area first p (e .frame) es
+  fit-is : entriesFit blocks area first p low l ≡ entryFits blocks area first p low (e .frame) (e .block) && entriesFit blocks area first p (e .frame) es
   unfolding entriesFit
   fit-is = rw (n, entriesFit) (nested (ltb low (e .frame)) (ltb (e .frame) blocks) (leb 1 (e .block)) (leb (e .block) area) (ltb (ringOffset area first (e .block)) p) _)
     where
@@ -82,13 +85,20 @@ module _ (blocks area first p low : ℕ) (e : Entry) (es l : List Entry) (n : l 
       nested true false c d f g = refl
       nested false b c d f g = refl
 
-  pub fit-more : ltb low (e .frame) && (ltb (e .frame) blocks && (leb 1 (e .block) && (leb (e .block) area && ltb (ringOffset area first (e .block)) p))) ≡ true
-      → entriesFit blocks area first p low l ≡ entriesFit blocks area first p (e .frame) es
+  pub fit-more : entryFits blocks area first p low (e .frame) (e .block) ≡ true → entriesFit blocks area first p low l ≡ entriesFit blocks area first p (e .frame) es
   fit-more h = fit-is ∙ rw h
 
-  pub fit-stops : ltb low (e .frame) && (ltb (e .frame) blocks && (leb 1 (e .block) && (leb (e .block) area && ltb (ringOffset area first (e .block)) p))) ≡ false
-      → entriesFit blocks area first p low l ≡ false
+  pub fit-stops : entryFits blocks area first p low (e .frame) (e .block) ≡ false → entriesFit blocks area first p low l ≡ false
   fit-stops h = fit-is ∙ rw h
+
+-- one that fits has its frame on the card and its block in the area
+pub entry-bounds : (blocks area first p low frame block : ℕ) → entryFits blocks area first p low frame block ≡ true → (frame < blocks) × (block ≤ area)
+entry-bounds blocks area first p low frame block h =
+    let a = both (ltb low frame) _ h in
+    let b = both (ltb frame blocks) _ (a .1) in
+    let c = both (leb 1 block) _ (b .1) in
+    let d = both (leb block area) _ (c .1) in
+    (ltb-true _ _ (b .0), leb-true _ _ (d .0))
 
 pub fit-end : (blocks area first p low : ℕ) (l : List Entry) → l ≡ [] → entriesFit blocks area first p low l ≡ true
 unfolding entriesFit

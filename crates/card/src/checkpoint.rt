@@ -61,18 +61,12 @@ fn committed(card: &[u8], h: Header) -> Checkpoint
     if !trailer::fits(h, t) {
         return refused(7);
     }
-    let d = directory::read(card, h.area, t.first, t.pages, t.entries);
-    if !directory::fits(
-        card.len() / 512,
-        h.area,
-        t.first,
-        t.pages,
-        &d.frames,
-        &d.blocks,
-        d.count,
-    ) {
+    let blocks = card.len() / 512;
+    let r = directory::read(card, blocks, h.area, t.first, t.pages, t.entries);
+    if !r.fits {
         return refused(8);
     }
+    let d = r.directory;
     Checkpoint {
         refusal: 0,
         header: h,

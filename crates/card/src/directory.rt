@@ -3,7 +3,7 @@ use super::block;
 use super::number;
 use super::ring;
 ghost use mathlib.Core.Path.{_≡_};
-ghost use mathlib.Core.Bool.{_&&_};
+ghost use mathlib.Core.Bool.{true, _&&_};
 ghost use Prim.Native.Nat.{_+_, _*_, _/_, _≤_, min};
 ghost use lib.Dec.{leb, ltb};
 ghost use lib.ListN.{length};
@@ -22,8 +22,15 @@ pub struct Entry {
 #[repr(C)]
 pub struct Directory {
     pub count: usize,
-    pub frames: [u32; 256],
-    pub blocks: [u32; 256],
+    pub frames: [u16; 256],
+    pub blocks: [u16; 256],
+}
+
+// A directory read from a card, and the answer to question 8. Where that is "no", the directory tells nothing.
+#[repr(C)]
+pub struct ReadBack {
+    pub fits: bool,
+    pub directory: Directory,
 }
 
 pub fn empty() -> Directory
@@ -31,8 +38,8 @@ pub fn empty() -> Directory
 {
     Directory {
         count: 0,
-        frames: [0u32; 256],
-        blocks: [0u32; 256],
+        frames: [0u16; 256],
+        blocks: [0u16; 256],
     }
 }
 
@@ -48,8 +55,8 @@ fn share(n: usize) -> usize
 
 // The j-th block of a directory.
 pub fn block<'a>(
-    frames: &'a [u32; 256],
-    blocks: &'a [u32; 256],
+    frames: &'a [u16; 256],
+    blocks: &'a [u16; 256],
     count: usize,
     j: usize,
 ) -> [u8; 512]
@@ -61,7 +68,9 @@ pub fn block<'a>(
     let n = share(count - from);
     let mut k = 0;
     while k < n {
-        let entry = [frames[from + k], blocks[from + k]];
+        let frame = number::word(frames[from + k]);
+        let block = number::word(blocks[from + k]);
+        let entry = [frame, block];
         number::put_words(&mut bytes, 8 * k, &entry, 2);
         k += 1;
     }
@@ -81,23 +90,6 @@ fn entry_on(card: &[u8], area: usize, first: usize, p: usize, i: usize) -> Entry
         frame: frame,
         block: block,
     }
-}
-
-// The directory of e entries behind p page blocks from first on.
-pub fn read(card: &[u8], area: usize, first: usize, p: usize, e: usize) -> Directory
-    requires { ⌜ (512 * area + 512 ≤ length (now card)) × ((area ≤ 512) × ((first ≤ area) × ((p + dirBlocks e ≤ area) × (e ≤ 256)))) ⌝ }
-    ensures { λ r. ⌜ (r .count ≡ e) × (entriesOf (r .frames) (r .blocks) e ≡ readDir (now (card .entry)) area first p e) ⌝ }
-{
-    let mut d = empty();
-    let mut i = 0;
-    while i < e {
-        let x = entry_on(card, area, first, p, i);
-        d.frames[i] = x.frame;
-        d.blocks[i] = x.block;
-        i += 1;
-    }
-    d.count = e;
-    d
 }
 
 // Is an entry above the frame before it, of a home frame, and with a block among the p page blocks from first on?
@@ -128,14 +120,45 @@ fn entry_fits(
     ring::offset(area, first, block) < p
 }
 
-// Question 8.
+// The directory of e entries behind p page blocks from first on, on a card of so many blocks, with question 8. A card can hold any 32-bit numbers as an entry,
+// so each is asked about before it is kept in 16 bits.
+pub fn read(card: &[u8], blocks: usize, area: usize, first: usize, p: usize, e: usize) -> ReadBack
+    requires { ⌜ (512 * area + 512 ≤ length (now card)) × ((blocks ≤ 65536) × ((area ≤ 512) × ((first ≤ area) × ((p + dirBlocks e ≤ area) × (e ≤ 256))))) ⌝ }
+    ensures { λ r. ⌜ (r .fits ≡ entriesFit blocks area first p area (readDir (now (card .entry)) area first p e)) × (r .fits ≡ true → (r .directory .count ≡ e) × (entriesOf (r .directory .frames) (r .directory .blocks) e ≡ readDir (now (card .entry)) area first p e)) ⌝ }
+{
+    let mut d = empty();
+    let mut low = area;
+    let mut i = 0;
+    while i < e {
+        let x = entry_on(card, area, first, p, i);
+        let frame = number::wide(x.frame);
+        let block = number::wide(x.block);
+        if !entry_fits(blocks, area, first, p, low, frame, block) {
+            return ReadBack {
+                fits: false,
+                directory: d,
+            };
+        }
+        d.frames[i] = number::short(frame);
+        d.blocks[i] = number::short(block);
+        low = frame;
+        i += 1;
+    }
+    d.count = e;
+    ReadBack {
+        fits: true,
+        directory: d,
+    }
+}
+
+// Question 8, of the entries in a record.
 pub fn fits<'a>(
     card: usize,
     area: usize,
     first: usize,
     p: usize,
-    frames: &'a [u32; 256],
-    blocks: &'a [u32; 256],
+    frames: &'a [u16; 256],
+    blocks: &'a [u16; 256],
     count: usize,
 ) -> bool
     requires { ⌜ (area ≤ 512) × ((first ≤ area) × (count ≤ 256)) ⌝ }
@@ -144,8 +167,9 @@ pub fn fits<'a>(
     let mut low = area;
     let mut i = 0;
     while i < count {
-        let frame = number::wide(frames[i]);
-        if !entry_fits(card, area, first, p, low, frame, number::wide(blocks[i])) {
+        let frame = number::from_short(frames[i]);
+        let block = number::from_short(blocks[i]);
+        if !entry_fits(card, area, first, p, low, frame, block) {
             return false;
         }
         low = frame;

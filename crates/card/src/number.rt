@@ -1,4 +1,4 @@
-// Stored numbers: 32 bits, low byte first.
+// Stored numbers: 32 bits, low byte first. And short ones, 16 bits: a record keeps block numbers so, since a card has at most 65536 blocks.
 ghost use mathlib.Core.Path.{_≡_};
 ghost use Prim.Native.Nat.{_+_, _*_, _≤_, _<_};
 ghost use lib.ListN.{length, take};
@@ -19,6 +19,26 @@ pub fn wide(x: u32) -> usize
 pub fn narrow(x: usize) -> u32
     requires { ⌜ x < 4294967296 ⌝ }
     ensures { λ r. ⌜ r ≡ x ⌝ }
+{
+    x as u32
+}
+
+pub fn short(x: usize) -> u16
+    requires { ⌜ x < 65536 ⌝ }
+    ensures { λ r. ⌜ r ≡ x ⌝ }
+{
+    x as u16
+}
+
+pub fn from_short(x: u16) -> usize
+    ensures { λ r. ⌜ (r ≡ x) × (r < 65536) ⌝ }
+{
+    x as usize
+}
+
+// A short number as one to be stored.
+pub fn word(x: u16) -> u32
+    ensures { λ r. ⌜ (r ≡ x) × (r < 65536) ⌝ }
 {
     x as u32
 }

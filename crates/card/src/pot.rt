@@ -117,13 +117,7 @@ fn entry_at(i: usize) -> usize
     requires { ⌜ i < 102 ⌝ }
     ensures { λ r. ⌜ r ≡ entryAt i ⌝ }
 {
-    wide(POSITIONS[i])
-}
-
-fn wide(x: u16) -> usize
-    ensures { λ r. ⌜ r ≡ x ⌝ }
-{
-    x as usize
+    number::from_short(POSITIONS[i])
 }
 
 pub fn count_at(pot: &[u8], i: usize) -> u32

@@ -7,27 +7,27 @@ use lib.ListN.{length}
 use mathlib.Core.Bool.{Bool, true, false}
 use mathlib.Core.List.{List, []}
 use mathlib.Core.Logic.{_≢_}
-use mathlib.Core.Path.{_≡_, refl, sym, _∙_}
+use mathlib.Core.Path.{_≡_, refl, ap, sym, _∙_}
 use native.Mathlib.Omega.{arith}
 use Rattle.card.proofs.QuestionLaws.{none-asked, asked-yes, asked-no}
 use Rattle.card.specs.Block.{whole}
 use Rattle.card.specs.Question.{firstNo, cardAsks}
-use Rattle.frames.proofs.KeepLaws.{kept-done, numbered-done, refused-by}
+use Rattle.frames.proofs.KeepLaws.{kept-done, kept-refused, numbered-done, refused-by}
 use Rattle.frames.proofs.ReadyLaws.{common-passed, common-refused}
-use Rattle.frames.specs.Promise.{lent, commonAsks, start, snapshot, pageOut, asks, doneAnswer, doneWrite, after, FrameKept, numbered}
+use Rattle.frames.specs.Promise.{lent, commonAsks, start, snapshot, pageOut, refused, wrote, asks, doneAnswer, doneWrite, after, FrameKept, numbered}
 use Rattle.frames.specs.Parts.{WriteDone, StepDone, Started}
 use Rattle.frames.specs.declared.answer.Wrote.{Wrote}
 use Rattle.record.proofs.SoundLaws.{notes-length, queue-length}
 use Rattle.record.specs.Meaning.{waits, notesOf, queueOf, stateOf, zeroStore}
 use Rattle.record.specs.declared.store.Store.{Store}
 use Rattle.recovery.specs.Questions.{startAsks, snapshotAsks, pageOutAsks}
-use Rattle.recovery.specs.Step.{pendingTo, currentTo, afterSnapshot, outWrite, outOf, pageOutWrite, afterPageOut}
+use Rattle.recovery.specs.Step.{page, pendingTo, currentTo, afterSnapshot, outWrite, outOf, pageOutWrite, afterPageOut}
 
 -- ---- page-out
 
 module _ (s : Store) (m c : List ℕ) where
-  pub page-out-common : (n : ℕ) → n ≡ firstNo (commonAsks s (length m) (length c)) → n ≢ 0 → FrameKept pageOut (lent s m c) (numbered n) (lent s m c)
-  page-out-common n e z = refused-by pageOut (lent s m c) n (unfold asks in (common-refused s (length m) (length c) _ (λ q. z (e ∙ q)) ∙ sym e)) z
+  pub page-out-common : (n : ℕ) → n ≡ firstNo (commonAsks s (length m) (length c)) → n ≢ 0 → FrameKept pageOut (lent s m c) (refused n) (lent s m c)
+  page-out-common n e z = kept-refused pageOut (lent s m c) n (unfold asks in (common-refused s (length m) (length c) _ (λ q. z (e ∙ q)) ∙ sym e)) z
 
   module _ (passed : firstNo (commonAsks s (length m) (length c)) ≡ 0) where
     asked : firstNo (asks pageOut (lent s m c)) ≡ firstNo (pageOutAsks (stateOf s m))
@@ -41,8 +41,8 @@ module _ (s : Store) (m c : List ℕ) where
     behind = queue-length s m (waits (s .pending)) (waits (s .current))
 
     -- none waits: 19
-    pub page-out-none : s .pending .taken ≤ s .pending .down → s .current .taken ≤ s .current .down → FrameKept pageOut (lent s m c) (numbered 19) (lent s m c)
-    page-out-none p q = refused-by pageOut (lent s m c) 19 (asked ∙ no) (λ e. omega (arith, e))
+    pub page-out-none : s .pending .taken ≤ s .pending .down → s .current .taken ≤ s .current .down → FrameKept pageOut (lent s m c) (refused 19) (lent s m c)
+    page-out-none p q = kept-refused pageOut (lent s m c) 19 (asked ∙ no) (λ e. omega (arith, e))
       where
         no : firstNo (pageOutAsks (stateOf s m)) ≡ 19
         no = unfold pageOutAsks in (asked-no 19 _ [] (le-ltb 0 (length (queueOf s m 0 (waits (s .pending))) + length (queueOf s m (waits (s .pending)) (waits (s .current)))) (omega (arith, waiting, behind, p, q))))
@@ -52,13 +52,13 @@ module _ (s : Store) (m c : List ℕ) where
 
     -- done: the block and the state are page-out's
     out-done : (r : Wrote) (card′ : List ℕ) → 0 < waits (s .pending) + waits (s .current) → WriteDone (pageOutWrite (stateOf s m)) (afterPageOut (stateOf s m)) m c r card′
-        → FrameKept pageOut (lent s m c) (numbered 0) (lent (r .store) m card′)
+        → FrameKept pageOut (lent s m c) (wrote page (r .block)) (lent (r .store) m card′)
     unfolding doneAnswer doneWrite after
-    out-done r card′ h w = kept-done pageOut (lent s m c) (lent (r .store) m card′) (numbered 0) (yes h) numbered-done (w .card-is) (w .meaning) (w .together) refl
+    out-done r card′ h w = kept-done pageOut (lent s m c) (lent (r .store) m card′) (wrote page (r .block)) (yes h) (ap (wrote page) (w .block-is)) (w .card-is) (w .meaning) (w .together) refl
 
     pub page-out-pending : (r : Wrote) (card′ : List ℕ) → s .pending .down < s .pending .taken
         → WriteDone (outWrite (s .geometry .area) (stateOf s m .pending)) (pendingTo (outOf (stateOf s m .pending)) (s .tail) (stateOf s m)) m c r card′
-        → FrameKept pageOut (lent s m c) (numbered 0) (lent (r .store) m card′)
+        → FrameKept pageOut (lent s m c) (wrote page (r .block)) (lent (r .store) m card′)
     page-out-pending r card′ p w = out-done r card′ (omega arith) (due (lt-ltb 0 (length (queueOf s m 0 (waits (s .pending)))) (omega (arith, waiting, p))))
       where
         due : ltb 0 (length (queueOf s m 0 (waits (s .pending)))) ≡ true → WriteDone (pageOutWrite (stateOf s m)) (afterPageOut (stateOf s m)) m c r card′
@@ -66,7 +66,7 @@ module _ (s : Store) (m c : List ℕ) where
 
     pub page-out-current : (r : Wrote) (card′ : List ℕ) → s .pending .taken ≤ s .pending .down → s .current .down < s .current .taken
         → WriteDone (outWrite (s .geometry .area) (stateOf s m .current)) (currentTo (outOf (stateOf s m .current)) (stateOf s m)) m c r card′
-        → FrameKept pageOut (lent s m c) (numbered 0) (lent (r .store) m card′)
+        → FrameKept pageOut (lent s m c) (wrote page (r .block)) (lent (r .store) m card′)
     page-out-current r card′ p q w = out-done r card′ (omega arith) (due (le-ltb 0 (length (queueOf s m 0 (waits (s .pending)))) (omega (arith, waiting, p))))
       where
         due : ltb 0 (length (queueOf s m 0 (waits (s .pending)))) ≡ false → WriteDone (pageOutWrite (stateOf s m)) (afterPageOut (stateOf s m)) m c r card′

@@ -124,6 +124,10 @@ module _ (s : Store) (h : Held s) where
 
 -- ---- a pending generation
 
+-- its places are below any number that is not below those taken
+places-within : (s : Store) → Held s → (n : ℕ) → s .pending .taken ≤ n → allWithin 0 n (cells (s .pending .places) 0 (s .pending .count)) ≡ true
+places-within s h n l = each-within 0 n (λ k. getD (s .pending .places) k 0) 0 (s .pending .count) (λ i a k. (omega arith, omega (arith, h .pending .taken i (omega arith))))
+
 module _ (s : Store) (h : Held s) (any : 0 < s .pending .count) where
   -- pages, directory and trailer take at most half the area
   pending-room : s .pending .taken + dirBlocks (s .pending .count) + 1 ≤ half (s .geometry .area)
@@ -133,14 +137,11 @@ module _ (s : Store) (h : Held s) (any : 0 < s .pending .count) where
     -- what the sort of its entries rests on
     pub sortable : (s .geometry .area ≤ 512)
         × ((first ≤ s .geometry .area)
-        × ((s .pending .taken ≤ s .geometry .area)
-        × ((s .pending .count < 256) × ((once (cells (s .pending .frames) 0 (s .pending .count)) ≡ true) × (allWithin 0 (s .pending .taken) (cells (s .pending .places) 0 (s .pending .count)) ≡ true)))))
+        × ((s .pending .count < 256) × ((once (cells (s .pending .frames) 0 (s .pending .count)) ≡ true) × (allWithin 0 (s .geometry .area) (cells (s .pending .places) 0 (s .pending .count)) ≡ true))))
     sortable =
         let b = bounds s h in
-        let n = s .pending .count in
-        let frames = apart-once (λ k. getD (s .pending .frames) k 0) 0 n (λ i j a l k. h .pending .single i j l (omega arith)) in
-        let spots = each-within 0 (s .pending .taken) (λ k. getD (s .pending .places) k 0) 0 n (λ i a k. (omega arith, h .pending .taken i (omega arith))) in
-        (b .area-high, (omega (arith, at-first, firsts s h .pending-in .1), (omega (arith, pending-room), (omega (arith, pending-room, b .area-high, h .pending-few), (frames, spots)))))
+        let frames = apart-once (λ k. getD (s .pending .frames) k 0) 0 (s .pending .count) (λ i j a l k. h .pending .single i j l (omega arith)) in
+        (b .area-high, (omega (arith, at-first, firsts s h .pending-in .1), (omega (arith, pending-room, b .area-high, h .pending-few), (frames, places-within s h (s .geometry .area) (omega (arith, pending-room))))))
 
     -- the i-th block behind its pages
     module _ (i : ℕ) (most : i ≤ dirBlocks (s .pending .count)) where
@@ -186,6 +187,11 @@ module _ (s : Store) (h : Held s) (still : waits (s .pending) ≡ 0) (any : 0 < 
       let o = ordered (pendingFirst s) (g .waiting) (s .pending) long (h .pending-down) (h .pending) in
       omega (arith, same-count (s .geometry .area) g o, long-waiting g, long, still, notes-length (s .pending))
 
+  -- the sorted one has them
+  sorted-is : (first : ℕ) (d : Directory) → Sorted (s .geometry .area) first (s .pending .frames) (s .pending .places) (s .pending .count) d
+      → entriesOf (d .frames) (d .blocks) (d .count) ≡ dirOf (s .geometry .area) first (s .pending .taken) (notesOf (s .pending))
+  sorted-is first d r = r .entries-are (s .pending .taken) (places-within s h (s .pending .taken) (omega arith))
+
   -- ---- D and T
 
   pub trailer-write : s .tail ≡ dirBlocks (s .pending .count) → (first to : ℕ) → first ≡ pendingFirst s → to ≡ ringAt (s .geometry .area) first (s .pending .taken + s .tail) → (card m : List ℕ)
@@ -195,11 +201,11 @@ module _ (s : Store) (h : Held s) (still : waits (s .pending) ≡ 0) (any : 0 < 
       rw (q, e, directory-length m, le-ltb (s .tail) (dirBlocks (s .pending .count)) (omega (arith, last)), all-down, add-one (s .commit)) refl
 
   pub directory-write : s .tail < dirBlocks (s .pending .count) → (first to : ℕ) (d : Directory) → first ≡ pendingFirst s → to ≡ ringAt (s .geometry .area) first (s .pending .taken + s .tail)
-      → Sorted (s .geometry .area) first (s .pending) d → (card m : List ℕ)
+      → Sorted (s .geometry .area) first (s .pending .frames) (s .pending .places) (s .pending .count) d → (card m : List ℕ)
       → kindWrite directory (stateOf s m) card ≡ record { block = to; bytes = dirBlock (entriesOf (d .frames) (d .blocks) (d .count)) (s .tail) }
   unfolding kindWrite tailBytes
   directory-write more first to d e q r card m =
-      rw (q, r .entries-are, e, directory-length m, lt-ltb (s .tail) (dirBlocks (s .pending .count)) more, directory-is m, all-down) refl
+      rw (q, sorted-is first d r, e, directory-length m, lt-ltb (s .tail) (dirBlocks (s .pending .count)) more, directory-is m, all-down) refl
 
   -- ---- H
 
@@ -209,7 +215,7 @@ module _ (s : Store) (h : Held s) (still : waits (s .pending) ≡ 0) (any : 0 < 
   header-write first to e q card m = rw (q, e, directory-length m, all-down, add-one (s .commit)) refl
 
   -- with the sorted directory, and a generation without a change
-  module _ (first : ℕ) (d : Directory) (e : Changes) (at-first : first ≡ pendingFirst s) (r : Sorted (s .geometry .area) first (s .pending) d) (z : NoChange e) where
+  module _ (first : ℕ) (d : Directory) (e : Changes) (at-first : first ≡ pendingFirst s) (r : Sorted (s .geometry .area) first (s .pending .frames) (s .pending .places) (s .pending .count) d) (z : NoChange e) where
     -- the sorted directory passes question 8
     sorted-fits : entriesFit (s .geometry .blocks) (s .geometry .area) first (s .pending .taken) (s .geometry .area) (entriesOf (d .frames) (d .blocks) (d .count)) ≡ true
     unfolding directoryOf
@@ -219,7 +225,7 @@ module _ (s : Store) (h : Held s) (still : waits (s .pending) ≡ 0) (any : 0 < 
         let es = dirOf area first (s .pending .taken) (notesOf (s .pending)) in
         let in-area = firsts s h .pending-in in
         let home : All (Home area blocks) es = rw all-down at (listed-home area blocks first [] (s .pending) (sym still) tt (h .pending) .0) in
-        rw (r .entries-are) (entries-ok blocks area first (s .pending .taken) area es (all-map (Home area blocks) (λ x. area < x .frame) es (λ x p. p .0) home) home
+        rw (sorted-is first d r) (entries-ok blocks area first (s .pending .taken) area es (all-map (Home area blocks) (λ x. area < x .frame) es (λ x p. p .0) home) home
         (dir-inside area first (s .pending .taken) (omega (arith, at-first, in-area .0)) (omega (arith, at-first, in-area .1)) (omega (arith, pending-room s h any)) (notesOf (s .pending)))
         (unfold dirOf in (rising-byFrame (downEntries area first (s .pending .taken) (notesOf (s .pending))))))
 
@@ -288,7 +294,7 @@ module _ (s : Store) (h : Held s) (still : waits (s .pending) ≡ 0) (any : 0 < 
         put-down = sym all-down
 
         entries : (m : List ℕ) → entriesOf (d .frames) (d .blocks) (d .count) ≡ directoryOf (s .geometry .area) (stateOf s m .pending)
-        entries m = rw (directory-is m, ← at-first) (r .entries-are)
+        entries m = rw (directory-is m, ← at-first) (sorted-is first d r)
 
         pending : (m : List ℕ) → stateOf (committedTo s first d e) m .pending ≡ empty (currentFirst s)
         pending m = none-means e z _ 0 _ ∙ ap empty next-first

@@ -1,7 +1,7 @@
 -- What the parts of calls promise.
 -- Assumes nothing.
 use Prim.Native.Nat.{ℕ, _+_, _*_, _≤_, _<_}
-use lib.ListN.{length, set, getD}
+use lib.ListN.{length, getD}
 use mathlib.Core.Bool.{true, false, cond}
 use mathlib.Core.List.{List, [], _∷_}
 use mathlib.Core.Path.{_≡_}
@@ -17,14 +17,15 @@ use Rattle.frames.specs.declared.answer.Done.{Done}
 use Rattle.frames.specs.declared.answer.Found.{Found}
 use Rattle.frames.specs.declared.answer.Need.{Need}
 use Rattle.frames.specs.declared.answer.Wrote.{Wrote}
+use Rattle.frames.specs.declared.change.Size.{Size}
 use Rattle.record.specs.Holds.{holdsTogether}
-use Rattle.record.specs.Lists.{once, allWithin}
-use Rattle.record.specs.Meaning.{notesOf, generationOf, committedOf, stateOf}
+use Rattle.record.specs.Lists.{cells, once, allWithin}
+use Rattle.record.specs.Meaning.{noteIn, committedOf, stateOf}
 use Rattle.record.specs.declared.store.Changes.{Changes}
 use Rattle.record.specs.declared.store.Store.{Store}
 use Rattle.recovery.specs.Book.{WholeFrame}
 use Rattle.recovery.specs.Contents.{FrameBytes, overlay, storedFrames}
-use Rattle.recovery.specs.Directory.{dirOf}
+use Rattle.recovery.specs.Directory.{Note, dirOf}
 use Rattle.recovery.specs.Questions.{roomAsks}
 use Rattle.recovery.specs.State.{State, directoryOf, waitingFrames, readFrame}
 use Rattle.recovery.specs.Step.{afterChange, Kind, kindWrite, afterKind, startState}
@@ -77,21 +78,47 @@ pendingBytes s f card memory =
 abbrev pub newestBytes : Store → ℕ → List ℕ → List ℕ → List ℕ
 newestBytes s f card memory = readFrame (stateOf s memory) card f
 
+-- ---- a generation's entries
+
+-- in two arrays, of which the first `count` matter
+abbrev pub notesIn : List ℕ → List ℕ → ℕ → List Note
+notesIn frames places count = tabulate (noteIn frames places) 0 count
+
 -- ---- room and change
 
 abbrev pub framesOf : List FrameBytes → List ℕ
 framesOf [] = []
 framesOf (w ∷ ws) = w .frame ∷ framesOf ws
 
--- new places and entries, of frames that are named once each
-pub record NeedIs (g : Changes) (frames : List ℕ) (r : Need) : Type 0 where
-  pub places : (first : ℕ) (waiting : List (List ℕ)) (ws : List FrameBytes) → framesOf ws ≡ frames → r .places ≡ placesNeeded ws (generationOf first waiting g)
-  pub entries : (first : ℕ) (waiting : List (List ℕ)) (ws : List FrameBytes) → framesOf ws ≡ frames → r .entries ≡ entriesNeeded ws (generationOf first waiting g)
+-- new places and entries, of frames that are named once each, in a generation with these entries and `down` places put down
+pub record NeedIs (down : ℕ) (notes : List Note) (frames : List ℕ) (r : Need) : Type 0 where
+  pub places : (first : ℕ) (waiting : List (List ℕ)) (ws : List FrameBytes) → framesOf ws ≡ frames → r .places ≡ placesNeeded ws (record { first = first; pagesDown = down; entries = notes; waiting = waiting })
+  pub entries : (first : ℕ) (waiting : List (List ℕ)) (ws : List FrameBytes) → framesOf ws ≡ frames → r .entries ≡ entriesNeeded ws (record { first = first; pagesDown = down; entries = notes; waiting = waiting })
   pub most : (r .places ≤ length frames) × (r .entries ≤ length frames)
 
 -- the number of 12 to 14 for frames that are named once each
 abbrev pub RoomIs : Store → List ℕ → ℕ → Type 0
 RoomIs s frames n = (memory : List ℕ) (ws : List FrameBytes) → framesOf ws ≡ frames → n ≡ firstNo (roomAsks ws (stateOf s memory))
+
+-- the record with g as its current generation
+abbrev pub withCurrent : Store → Changes → Store
+withCurrent s g = record {
+  frames = s .frames;
+  head = s .head;
+  geometry = s .geometry;
+  commit = s .commit;
+  first = s .first;
+  pages = s .pages;
+  committed = s .committed;
+  migrated = s .migrated;
+  pending = s .pending;
+  tail = s .tail;
+  current = g;
+}
+
+-- with that size, and its entries in these arrays
+abbrev pub withArrays : Store → Size → List ℕ → List ℕ → Store
+withArrays s n frames places = withCurrent s (record { count = n .entries; taken = n .places; down = s .current .down; frames = frames; places = places })
 
 -- what a change of one frame may rest on
 pub record Changeable (s : Store) (memory : List ℕ) (w : FrameBytes) : Type 0 where
@@ -128,21 +155,16 @@ abbrev pub ChangeKept : Store → List ℕ → List ℕ → List ℕ → Done �
 ChangeKept s memory names bytes r after = (card : List ℕ) → firstNo (commonAsks s (length memory) (length card)) ≡ 0
     → FrameKept (change (framesWith names bytes)) (lent s memory card) (numbered (r .answer)) (lent (r .store) after card)
 
--- one entry more, at the next place
-pub record Entered (g : Changes) (f : ℕ) (r : Changes) : Type 0 where
-  pub is : r ≡ record { count = g .count + 1; taken = g .taken + 1; down = g .down; frames = set (g .frames) (g .count) f; places = set (g .places) (g .count) (g .taken) }
-  pub long : (length (g .frames) ≡ 256) × (length (g .places) ≡ 256)
-
--- entry i at the next place
-pub record Replaced (g : Changes) (i : ℕ) (r : Changes) : Type 0 where
-  pub is : r ≡ record { count = g .count; taken = g .taken + 1; down = g .down; frames = g .frames; places = set (g .places) i (g .taken) }
-  pub long : length (g .places) ≡ 256
-
 -- ---- the pending directory by rising frame
 
-pub record Sorted (area first : ℕ) (g : Changes) (d : Directory) : Type 0 where
-  pub entries-are : entriesOf (d .frames) (d .blocks) (d .count) ≡ dirOf area first (g .taken) (notesOf g)
-  pub count-is : d .count ≡ g .count
+-- the first n elements rise
+abbrev pub Rises : List ℕ → ℕ → Type 0
+Rises l n = (i j : ℕ) → i < j → j < n → getD l i 0 < getD l j 0
+
+-- entries in two arrays as a directory, whatever number of places is put down, if it is all of theirs
+pub record Sorted (area first : ℕ) (frames places : List ℕ) (count : ℕ) (d : Directory) : Type 0 where
+  pub entries-are : (put : ℕ) → allWithin 0 put (cells places 0 count) ≡ true → entriesOf (d .frames) (d .blocks) (d .count) ≡ dirOf area first put (notesIn frames places count)
+  pub count-is : d .count ≡ count
 
 -- ---- start
 

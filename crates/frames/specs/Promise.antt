@@ -98,7 +98,7 @@ unfoldable pub doneAnswer : FrameCall → Lent → FrameAnswer
 doneAnswer (start m) l = done
 doneAnswer (change ws) l = done
 doneAnswer snapshot l = done
-doneAnswer pageOut l = done
+doneAnswer pageOut l = wrote page (pageOutWrite (meaningOf l) .block)
 doneAnswer advance l = advanceAnswer (advanceDue (meaningOf l)) l
 
 unfoldable pub doneWrite : FrameCall → Lent → Option BlockWrite

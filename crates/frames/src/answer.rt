@@ -15,7 +15,7 @@ pub struct Wrote {
     pub store: Store,
 }
 
-// What advance wrote: a waiting page, a directory block, the trailer, a migrated frame, the header, each with its block. Or the refusal's number.
+// What advance or page-out wrote: a waiting page, a directory block, the trailer, a migrated frame, the header, each with its block. Or the refusal's number.
 pub enum Advance {
     P(usize),
     D(usize),

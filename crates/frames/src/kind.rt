@@ -9,7 +9,6 @@ use card::ring;
 use card::trailer;
 use card::trailer::Trailer;
 use record::list;
-use record::store;
 use record::store::Store;
 ghost use mathlib.Core.Path.{_≡_};
 ghost use mathlib.Core.Bool.{true};
@@ -38,7 +37,7 @@ pub fn directory_block(s: Store, card: &mut [u8]) -> Wrote
 {
     let first = place::pending_first(s);
     let g = s.pending;
-    let d = rising::sorted(s.geometry.area, first, g);
+    let d = rising::sorted(s.geometry.area, first, &g.frames, &g.places, g.count);
     let bytes = directory::block(&d.frames, &d.blocks, d.count, s.tail);
     let to = ring::at(s.geometry.area, first, s.pending.taken + s.tail);
     block::put(card, to, &bytes);
@@ -97,8 +96,7 @@ fn commit(s: Store) -> Store
 {
     let first = place::pending_first(s);
     let g = s.pending;
-    let d = rising::sorted(s.geometry.area, first, g);
-    let e = store::no_change();
+    let d = rising::sorted(s.geometry.area, first, &g.frames, &g.places, g.count);
     let next = s.commit + 1;
     let mut t = s;
     t.commit = next;
@@ -106,7 +104,9 @@ fn commit(s: Store) -> Store
     t.pages = g.taken;
     t.committed = d;
     t.migrated = 0;
-    t.pending = e;
+    t.pending.count = 0;
+    t.pending.taken = 0;
+    t.pending.down = 0;
     t.tail = 0;
     t
 }

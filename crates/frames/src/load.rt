@@ -1,4 +1,4 @@
-// The newest bytes of a frame: of current, pending, committed, home.
+// The newest bytes of a frame: of current, pending, committed, home. An array is copied before it is searched: a record of which an element is looked up is copied whole.
 use super::answer::Found;
 use super::place;
 use card::block;
@@ -15,36 +15,38 @@ ghost use Rattle.record.specs.Holds.{holdsTogether};
 ghost use Rattle.frames.specs.Promise.{commonAsks, lent, Loads};
 ghost use Rattle.frames.specs.Parts.{Located, committedBytes, pendingBytes, newestBytes};
 
-fn in_committed(s: Store, frame: u32) -> Found
+fn in_committed(s: Store, frame: u16) -> Found
     requires { ⌜ (holdsTogether s ≡ true) × (frame < s .geometry .blocks) ⌝ }
     ensures { λ r. ⌜ Located s (committedBytes s frame) r ⌝ }
 {
-    let d = s.committed;
-    let i = list::find(&d.frames, d.count, frame);
-    if i == d.count {
-        let home = number::wide(frame);
+    let frames = s.committed.frames;
+    let i = list::find(&frames, s.committed.count, frame);
+    if i == s.committed.count {
+        let home = number::from_short(frame);
         return Found {
             memory: false,
             number: home,
         };
     }
-    let to = list::at(&d.blocks, i);
+    let blocks = s.committed.blocks;
+    let to = list::at(&blocks, i);
     Found {
         memory: false,
         number: to,
     }
 }
 
-fn in_pending(s: Store, frame: u32) -> Found
+fn in_pending(s: Store, frame: u16) -> Found
     requires { ⌜ (holdsTogether s ≡ true) × ((frame < s .geometry .blocks) × (s .frames ≤ 64)) ⌝ }
     ensures { λ r. ⌜ Located s (pendingBytes s frame) r ⌝ }
 {
-    let g = s.pending;
-    let i = list::find(&g.frames, g.count, frame);
-    if i == g.count {
+    let frames = s.pending.frames;
+    let i = list::find(&frames, s.pending.count, frame);
+    if i == s.pending.count {
         return in_committed(s, frame);
     }
-    let place = list::at(&g.places, i);
+    let places = s.pending.places;
+    let place = list::at(&places, i);
     if place < s.pending.down {
         let first = place::pending_first(s);
         let to = ring::at(s.geometry.area, first, place);
@@ -61,16 +63,17 @@ fn in_pending(s: Store, frame: u32) -> Found
 }
 
 // Where the newest bytes of a frame are.
-fn newest(s: Store, frame: u32) -> Found
+fn newest(s: Store, frame: u16) -> Found
     requires { ⌜ (holdsTogether s ≡ true) × ((frame < s .geometry .blocks) × (s .frames ≤ 64)) ⌝ }
     ensures { λ r. ⌜ Located s (newestBytes s frame) r ⌝ }
 {
-    let g = s.current;
-    let i = list::find(&g.frames, g.count, frame);
-    if i == g.count {
+    let frames = s.current.frames;
+    let i = list::find(&frames, s.current.count, frame);
+    if i == s.current.count {
         return in_pending(s, frame);
     }
-    let place = list::at(&g.places, i);
+    let places = s.current.places;
+    let place = list::at(&places, i);
     if place < s.current.down {
         let first = place::current_first(s);
         let to = ring::at(s.geometry.area, first, place);
@@ -92,7 +95,7 @@ pub fn load(s: Store, card: &[u8], memory: &[u8], frame: usize, buffer: &mut [u8
     requires { ⌜ (firstNo (commonAsks s (length (now memory)) (length (now card))) ≡ 0) × ((frame < s .geometry .blocks) × (length (now buffer) ≡ 512)) ⌝ }
     ensures { λ _. ⌜ Loads (lent s (now (memory .entry)) (now (card .entry))) frame (now (buffer .exit)) ⌝ }
 {
-    let r = newest(s, number::narrow(frame));
+    let r = newest(s, number::short(frame));
     let at = r.number;
     if r.memory {
         block::get(memory, at, buffer);

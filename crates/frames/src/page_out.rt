@@ -1,5 +1,6 @@
 // Page-out: the oldest waiting frame goes to the card, pending before current.
-use super::answer::Done;
+use super::answer::Advance;
+use super::answer::Advanced;
 use super::answer::Wrote;
 use super::place;
 use super::question;
@@ -12,7 +13,7 @@ ghost use lib.ListN.{length};
 ghost use Rattle.card.specs.Question.{firstNo};
 ghost use Rattle.record.specs.Meaning.{stateOf};
 ghost use Rattle.recovery.specs.Step.{outWrite, outOf, pendingTo, currentTo};
-ghost use Rattle.frames.specs.Promise.{commonAsks, pageOut, lent, numbered, FrameKept};
+ghost use Rattle.frames.specs.Promise.{commonAsks, pageOut, lent, reported, FrameKept};
 ghost use Rattle.frames.specs.Parts.{WriteDone};
 
 // The oldest frame that waits for the pending snapshot.
@@ -59,34 +60,35 @@ fn current(s: Store, card: &mut [u8], memory: &[u8]) -> Wrote
     }
 }
 
-pub fn page_out(s: Store, card: &mut [u8], memory: &[u8]) -> Done
-    ensures { λ r. ⌜ FrameKept pageOut (lent s (now (memory .entry)) (now (card .entry))) (numbered (r .answer)) (lent (r .store) (now (memory .entry)) (now (card .exit))) ⌝ }
+// Reports the block as an advance of kind P does.
+pub fn page_out(s: Store, card: &mut [u8], memory: &[u8]) -> Advanced
+    ensures { λ r. ⌜ FrameKept pageOut (lent s (now (memory .entry)) (now (card .entry))) (reported (r .answer)) (lent (r .store) (now (memory .entry)) (now (card .exit))) ⌝ }
 {
     let no = question::common(s, memory.len(), card.len());
     if no != 0 {
-        return Done {
-            answer: no,
+        return Advanced {
+            answer: Advance::Refused(no),
             store: s,
         };
     }
     if s.pending.down < s.pending.taken {
         let w = pending(s, card, memory);
         let t = w.store;
-        return Done {
-            answer: 0,
+        return Advanced {
+            answer: Advance::P(w.block),
             store: t,
         };
     }
     if s.current.taken <= s.current.down {
-        return Done {
-            answer: 19,
+        return Advanced {
+            answer: Advance::Refused(19),
             store: s,
         };
     }
     let w = current(s, card, memory);
     let t = w.store;
-    Done {
-        answer: 0,
+    Advanced {
+        answer: Advance::P(w.block),
         store: t,
     }
 }

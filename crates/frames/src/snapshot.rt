@@ -1,7 +1,6 @@
 // Snapshot: the current generation becomes the pending one.
 use super::answer::Done;
 use super::question;
-use record::store;
 use record::store::Store;
 ghost use mathlib.Core.Path.{_≡_};
 ghost use mathlib.Core.Bool.{true};
@@ -11,16 +10,18 @@ ghost use Rattle.recovery.specs.Step.{afterSnapshot};
 ghost use Rattle.frames.specs.Promise.{snapshot, lent, numbered, FrameKept};
 ghost use Rattle.frames.specs.Parts.{StepDone};
 
+// The current generation is without a change: what its arrays hold beyond the count tells nothing.
 fn mark(s: Store) -> Store
     requires { ⌜ (holdsTogether s ≡ true) × ((s .pending .count ≡ 0) × ((0 < s .current .count) × (s .commit < 4294967295))) ⌝ }
     ensures { λ t. ⌜ StepDone afterSnapshot s t ⌝ }
 {
-    let e = store::no_change();
     let c = s.current;
     let mut t = s;
     t.tail = 0;
     t.pending = c;
-    t.current = e;
+    t.current.count = 0;
+    t.current.taken = 0;
+    t.current.down = 0;
     t
 }
 

@@ -174,16 +174,7 @@ pub fn last_commit() -> u32 {
     e.answer
 }
 
-// 19
-pub fn none_waits() -> u32 {
-    let mut card = [0u8; 5632];
-    let memory = [0u8; 2048];
-    let s = whole_run::begin(&mut card, &memory, 8, 1);
-    let d = pages::page_out::page_out(s, &mut card, &memory);
-    d.answer
-}
-
-fn number_of_advance(a: Advance) -> u32 {
+fn number_of(a: Advance) -> u32 {
     match a {
         Advance::P(_) => 0,
         Advance::D(_) => 0,
@@ -194,6 +185,16 @@ fn number_of_advance(a: Advance) -> u32 {
     }
 }
 
+// 19
+pub fn none_waits() -> u32 {
+    let mut card = [0u8; 5632];
+    let memory = [0u8; 2048];
+    let s = whole_run::begin(&mut card, &memory, 8, 1);
+    let d = pages::page_out::page_out(s, &mut card, &memory);
+    let a = d.answer;
+    number_of(a)
+}
+
 // 20
 pub fn none_due() -> u32 {
     let mut card = [0u8; 5632];
@@ -201,5 +202,5 @@ pub fn none_due() -> u32 {
     let s = whole_run::begin(&mut card, &memory, 8, 1);
     let d = pages::advance::advance(s, &mut card, &memory);
     let a = d.answer;
-    number_of_advance(a)
+    number_of(a)
 }

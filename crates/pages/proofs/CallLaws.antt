@@ -1,7 +1,7 @@
 -- The page layer's calls keep their promise: a law for each way in which a call ends.
 -- Assumes nothing.
 use Prim.Native.Nat.{ℕ, _+_, _≤_, _<_}
-use borrow.Author.Tests.{eqb-true, lt-ltb, le-ltb, eq-eqb, ne-eqb}
+use borrow.Author.Tests.{eqb-true, ltb-true, leb-true, eq-eqb, ne-eqb}
 use lib.Dec.{leb, ltb, eqb}
 use lib.ListN.{length}
 use mathlib.Core.Bool.{true, false}
@@ -9,7 +9,7 @@ use mathlib.Core.List.{List, [], _∷_, _++_}
 use mathlib.Core.Logic.{_≢_}
 use mathlib.Core.Path.{_≡_, refl, ap, sym, _∙_}
 use native.Mathlib.Omega.{arith}
-use Rattle.card.proofs.QuestionLaws.{none-asked, asked-yes, asked-no, passed-both}
+use Rattle.card.proofs.QuestionLaws.{none-asked}
 use Rattle.card.specs.Bytes.{patch}
 use Rattle.card.specs.Pot.{countAt, flagsAt, putFlags, isZero, clearZero}
 use Rattle.card.specs.Question.{Question, ask, firstNo}
@@ -20,9 +20,9 @@ use Rattle.frames.specs.Parts.{framesWith, Changing, ChangeKept}
 use Rattle.frames.specs.Promise.{Lent, lent, meaningOf, common, FrameAnswer, FrameKept, numbered}
 use Rattle.frames.specs.declared.answer.Done.{Done}
 use Rattle.pages.proofs.AnswerLaws.{change-none, keeps-no, keeps-same, lifted}
-use Rattle.pages.proofs.NamedLaws.{changing-one, changing-two, one-frame, two-frames, asks-located, names-common, names-count, names-within, asks-stop, asks-on}
+use Rattle.pages.proofs.NamedLaws.{changing-one, changing-two, one-frame, two-frames, names-common, names-count, names-within, key-no, key-named, key-fits, key-own, key-on}
 use Rattle.pages.specs.Page.{pageBytes, writeFrames, rescindPot, rescindFrames}
-use Rattle.pages.specs.Promise.{Call, start, key, read, write, rescind, snapshot, pageOut, advance, refused, done, counted, filled, answered, countedAs, atPlace, presentFrames, presentCount, writeChanges, rescindChanges, asks, frameCall, doneAnswer, refusal, Kept, NamedIs}
+use Rattle.pages.specs.Promise.{Call, start, key, read, write, rescind, snapshot, pageOut, advance, refused, done, counted, filled, answered, countedAs, atPlace, presentFrames, writeChanges, rescindChanges, asks, frameCall, doneAnswer, refusal, Kept, followed, NamedIs}
 use Rattle.pages.specs.declared.answer.Count.the-variants.{Present, Refused}
 use Rattle.pages.specs.declared.named.Named.{Named}
 use Rattle.record.specs.Holds.{holdsTogether}
@@ -51,81 +51,71 @@ module _ (l l′ : Lent) (a : FrameAnswer) where
 
 -- ---- a page that is named, and passes
 
-module _ (l : Lent) (o : ℕ) (rest : Address → List Question) (r : Named) (n : NamedIs l o rest r) (z : r .refusal ≡ 0) where
+module _ (l : Lent) (o : ℕ) (r : Named) (pot : List ℕ) (n : NamedIs l o r pot) (z : r .refusal ≡ 0) where
   names-together : holdsTogether (l .store) ≡ true
-  names-together = ready (l .store) (length (l .memory)) (length (l .card)) (names-common l o rest r n z) .together
+  names-together = ready (l .store) (length (l .memory)) (length (l .card)) (names-common l o r pot n z) .together
 
-  -- its bytes can be read
-  pub readable : (firstNo (common l) ≡ 0)
-      × ((r .address .page < l .store .geometry .blocks) × ((r .address .entry < 102) × (r .pot ≡ presentFrames l (r .address .pot))))
-  readable =
-      let w = names-within l o rest r n z in
-      (names-common l o rest r n z, (w .page-high, (w .entry-high, n .pot-is z)))
+  -- its frame can be read
+  pub readable : (firstNo (common l) ≡ 0) × (r .address .page < l .store .geometry .blocks)
+  readable = (names-common l o r pot n z, names-within l o r pot n z .page-high)
+
+  -- its frames are small numbers
+  pub small : (r .address .page < 65536) × (r .address .pot < 65536)
+  small =
+      let w = names-within l o r pot n z in
+      let high = ready (l .store) (length (l .memory)) (length (l .card)) (names-common l o r pot n z) .blocks-high in
+      (omega (arith, w .page-high, high), omega (arith, w .pot-high, high))
 
   -- its page, its pot, or both can be changed
-  pub page-changing : (x : List ℕ) → length x ≡ 512 → Changing (l .store) (l .memory) (r .address .page ∷ []) x
-  page-changing x long =
-      let w = names-within l o rest r n z in
-      changing-one (l .store) (l .memory) (length (l .card)) (names-common l o rest r n z) (r .address .page) x (w .page-low) (w .page-high) long
+  pub page-changing : {f : ℕ} → f ≡ r .address .page → (x : List ℕ) → length x ≡ 512 → Changing (l .store) (l .memory) (f ∷ []) x
+  page-changing e x long =
+      let w = names-within l o r pot n z in
+      rw e (changing-one (l .store) (l .memory) (length (l .card)) (names-common l o r pot n z) (r .address .page) x (w .page-low) (w .page-high) long)
 
-  pub pot-changing : (x : List ℕ) → length x ≡ 512 → Changing (l .store) (l .memory) (r .address .pot ∷ []) x
-  pot-changing x long =
-      let w = names-within l o rest r n z in
-      changing-one (l .store) (l .memory) (length (l .card)) (names-common l o rest r n z) (r .address .pot) x (w .pot-low) (w .pot-high) long
+  pub pot-changing : {f : ℕ} → f ≡ r .address .pot → (x : List ℕ) → length x ≡ 512 → Changing (l .store) (l .memory) (f ∷ []) x
+  pot-changing e x long =
+      let w = names-within l o r pot n z in
+      rw e (changing-one (l .store) (l .memory) (length (l .card)) (names-common l o r pot n z) (r .address .pot) x (w .pot-low) (w .pot-high) long)
 
-  pub both-changing : (x y : List ℕ) → length x ≡ 512 → length y ≡ 512 → Changing (l .store) (l .memory) (r .address .page ∷ r .address .pot ∷ []) (x ++ y)
-  both-changing x y x-long y-long =
-      changing-two (l .store) (l .memory) (length (l .card)) (names-common l o rest r n z) (r .address) x y (names-within l o rest r n z) x-long y-long
+  pub both-changing : {f g : ℕ} → f ≡ r .address .page → g ≡ r .address .pot → (x y : List ℕ) → length x ≡ 512 → length y ≡ 512 → {both : List ℕ} → both ≡ x ++ y
+      → Changing (l .store) (l .memory) (f ∷ g ∷ []) both
+  both-changing e h x y x-long y-long both =
+      rw (e, h, both) (changing-two (l .store) (l .memory) (length (l .card)) (names-common l o r pot n z) (r .address) x y (names-within l o r pot n z) x-long y-long)
 
 -- ---- key
 
-module _ (l : Lent) (o : ℕ) (r : Named) (n : NamedIs l o (λ p. []) r) where
+module _ (l : Lent) (o : ℕ) (r : Named) (pot : List ℕ) (n : NamedIs l o r pot) where
   pub key-refused : r .refusal ≢ 0 → Kept (key o) l (countedAs (Refused (r .refusal))) l
   unfolding asks frameCall refusal countedAs
   key-refused z = keeps-no (key o) l (r .refusal) (sym (n .refusal-is)) z
 
-  pub key-done : r .refusal ≡ 0 → {count : ℕ} → count ≡ countAt (r .pot) (r .address .entry) → Kept (key o) l (countedAs (Present count)) l
+  pub key-done : r .refusal ≡ 0 → {count : ℕ} → count ≡ countAt pot (r .address .entry) → Kept (key o) l (countedAs (Present count)) l
   unfolding asks frameCall doneAnswer countedAs atPlace
   key-done z {count} e =
-      let answer : doneAnswer (key o) l ≡ counted count = rw (n .place-is z) (ap counted (sym (e ∙ names-count l o _ r n z))) in
-      rw (← answer) (keeps-same (key o) l (sym (n .refusal-is) ∙ z) refl (names-together l o _ r n z))
-
--- ---- calls that name a page by its key
-
--- 10, which follows 9
-abbrev pub keyAsks : Lent → ℕ → Address → List Question
-keyAsks l count p = ask 10 (eqb (presentCount l p) count) ∷ []
-
--- passed: it is the present count
-pub key-fits : (l : Lent) (o count : ℕ) (r : Named) → NamedIs l o (keyAsks l count) r → r .refusal ≡ 0 → countAt (r .pot) (r .address .entry) ≡ count
-key-fits l o count r n z =
-    let e = asks-located l o (keyAsks l count) (r .address) (names-common l o _ r n z) (n .place-is z) in
-    names-count l o _ r n z ∙ eqb-true _ count (passed-both 9 _ [] (sym e ∙ sym (n .refusal-is) ∙ z) .0)
+      let answer : doneAnswer (key o) l ≡ counted count = rw (n .place-is z) (ap counted (sym (e ∙ names-count l o r pot n z))) in
+      rw (← answer) (keeps-same (key o) l (sym (n .refusal-is) ∙ z) refl (names-together l o r pot n z))
 
 -- ---- read
 
-module _ (l : Lent) (o count : ℕ) (x : List ℕ) (r : Named) (n : NamedIs l o (keyAsks l count) r) where
-  abbrev read-more : Address → List Question
-  read-more p = ask 11 (eqb (length x) 512) ∷ []
-
-  pub read-refused : r .refusal ≢ 0 → Kept (read o count x) l (filled (r .refusal) x) l
+module _ (l : Lent) (o count : ℕ) (x : List ℕ) (r : Named) (pot : List ℕ) (n : NamedIs l o r pot) {checked number : ℕ}
+    (checked-is : checked ≡ followed (r .refusal) (ask 10 (eqb (countAt pot (r .address .entry)) count))) (number-is : number ≡ followed checked (ask 11 (eqb (length x) 512))) where
+  pub read-refused : number ≢ 0 → Kept (read o count x) l (filled number x) l
   unfolding asks frameCall refusal
-  read-refused z = keeps-no (read o count x) l (r .refusal) (asks-stop l o (keyAsks l count) read-more r n z) z
+  read-refused h = keeps-no (read o count x) l number (key-no l o count r pot n 10 (eqb (length x) 512) checked-is number-is (λ p. []) h) h
 
-  module _ (z : r .refusal ≡ 0) where
-    read-asked : firstNo (asks (read o count x) l) ≡ firstNo (read-more (r .address))
-    unfolding asks
-    read-asked = asks-on l o (keyAsks l count) read-more r n (omega arith, tt) z
+  module _ (h : number ≡ 0) where
+    pub read-named : r .refusal ≡ 0
+    read-named = key-named l o count r pot n 10 _ checked-is number-is h
 
-    pub read-11 : length x ≢ 512 → Kept (read o count x) l (filled 11 x) l
-    unfolding frameCall refusal
-    read-11 h = keeps-no (read o count x) l 11 (read-asked ∙ asked-no 11 _ [] (ne-eqb (length x) 512 h)) (λ q. omega (arith, q))
+    pub read-long : length x ≡ 512
+    read-long = eqb-true (length x) 512 (key-own l o count r pot n 10 _ checked-is number-is h)
 
-    pub read-done : length x ≡ 512 → {y : List ℕ} → y ≡ pageBytes (presentFrames l) (r .address) → Kept (read o count x) l (filled 0 y) l
-    unfolding frameCall doneAnswer atPlace
-    read-done h {y} e =
-        let answer : doneAnswer (read o count x) l ≡ filled 0 y = rw (n .place-is z) (ap (filled 0) (sym e)) in
-        rw (← answer) (keeps-same (read o count x) l (read-asked ∙ asked-yes 11 _ [] (eq-eqb (length x) 512 h) ∙ none-asked) refl (names-together l o _ r n z))
+    pub read-done : {y : List ℕ} → y ≡ pageBytes (presentFrames l) (r .address) → Kept (read o count x) l (filled number y) l
+    unfolding asks frameCall doneAnswer atPlace
+    read-done {y} e =
+        let answer : doneAnswer (read o count x) l ≡ filled number y = rw (n .place-is read-named, h) (ap (filled 0) (sym e)) in
+        let asked = key-on l o count r pot n 10 (eqb (length x) 512) checked-is number-is h (λ p. []) ∙ none-asked in
+        rw (← answer) (keeps-same (read o count x) l asked refl (names-together l o r pot n read-named))
 
 -- ---- calls that answer by number
 
@@ -148,87 +138,85 @@ change-kept c l ws call passed asked ends same names bytes d {after} are k =
 
 -- ---- rescind
 
-module _ (l : Lent) (o count : ℕ) (r : Named) (n : NamedIs l o (keyAsks l count) r) where
-  abbrev rescind-more : Address → List Question
-  rescind-more p = ask 15 (ltb count 4294967295) ∷ roomAsks (rescindChanges l p) (meaningOf l)
+module _ (l : Lent) (o count : ℕ) (r : Named) (pot : List ℕ) (n : NamedIs l o r pot) {checked number : ℕ}
+    (checked-is : checked ≡ followed (r .refusal) (ask 10 (eqb (countAt pot (r .address .entry)) count))) (number-is : number ≡ followed checked (ask 15 (ltb count 4294967295))) where
+  abbrev rescind-rest : Address → List Question
+  rescind-rest p = roomAsks (rescindChanges l p) (meaningOf l)
 
-  pub rescind-refused : r .refusal ≢ 0 → Kept (rescind o count) l (answered (numbered (r .refusal))) l
+  pub rescind-refused : number ≢ 0 → Kept (rescind o count) l (answered (numbered number)) l
   unfolding asks frameCall refusal
-  rescind-refused z = refused-by (rescind o count) l (λ k. refl) (r .refusal) (asks-stop l o (keyAsks l count) rescind-more r n z) z
+  rescind-refused h = refused-by (rescind o count) l (λ k. refl) number (key-no l o count r pot n 14 _ checked-is number-is rescind-rest h) h
 
-  module _ (z : r .refusal ≡ 0) where
-    rescind-asked : firstNo (asks (rescind o count) l) ≡ firstNo (rescind-more (r .address))
-    unfolding asks
-    rescind-asked = asks-on l o (keyAsks l count) rescind-more r n (omega arith, tt) z
+  module _ (h : number ≡ 0) where
+    pub rescind-named : r .refusal ≡ 0
+    rescind-named = key-named l o count r pot n 14 _ checked-is number-is h
 
-    pub rescind-15 : 4294967295 ≤ count → Kept (rescind o count) l (answered (numbered 15)) l
-    unfolding frameCall refusal
-    rescind-15 h = refused-by (rescind o count) l (λ k. refl) 15 (rescind-asked ∙ asked-no 15 _ _ (le-ltb count 4294967295 h)) (λ q. omega (arith, q))
+    -- the count can rise
+    pub rescind-few : countAt pot (r .address .entry) < 4294967295
+    rescind-few =
+        omega (arith, key-fits l o count r pot n 14 _ checked-is number-is h, ltb-true count 4294967295 (key-own l o count r pot n 14 _ checked-is number-is h))
 
-    pub rescind-done : count < 4294967295 → (x : List ℕ) → length x ≡ 512 → x ≡ rescindPot (r .pot) (r .address .entry) → (d : Done) {after : List ℕ}
-        → ChangeKept (l .store) (l .memory) (r .address .pot ∷ []) x d after → Kept (rescind o count) l (answered (numbered (d .answer))) (lent (d .store) after (l .card))
-    unfolding frameCall doneAnswer refusal atPlace rescindChanges rescindFrames
-    rescind-done h x long is d k =
-        change-kept (rescind o count) l (rescindChanges l (r .address)) (rw (n .place-is z) refl) (names-common l o _ r n z)
-        (rescind-asked ∙ asked-yes 15 _ _ (lt-ltb count 4294967295 h)) refl (λ q. refl)
-        (r .address .pot ∷ []) x d (one-frame (r .address .pot) x long ∙ rw (is, n .pot-is z) refl) k
+    pub rescind-done : {f : ℕ} → f ≡ r .address .pot → (x : List ℕ) → length x ≡ 512 → x ≡ rescindPot pot (r .address .entry) → (d : Done) {after : List ℕ}
+        → ChangeKept (l .store) (l .memory) (f ∷ []) x d after → Kept (rescind o count) l (answered (numbered (d .answer))) (lent (d .store) after (l .card))
+    unfolding asks frameCall doneAnswer refusal atPlace rescindChanges rescindFrames
+    rescind-done {f} name x long is d k =
+        change-kept (rescind o count) l (rescindChanges l (r .address)) (rw (n .place-is rescind-named) refl) (names-common l o r pot n rescind-named)
+        (key-on l o count r pot n 14 _ checked-is number-is h rescind-rest) refl (λ q. refl)
+        (f ∷ []) x d (one-frame f x long ∙ rw (name, is, n .pot-is rescind-named) refl) k
 
 -- ---- write
 
-module _ (l : Lent) (o count at : ℕ) (new : List ℕ) (r : Named) (n : NamedIs l o (keyAsks l count) r) where
-  abbrev write-more : Address → List Question
-  write-more p = ask 11 (leb (at + length new) 512) ∷ roomAsks (writeChanges l at new p) (meaningOf l)
+module _ (l : Lent) (o count at : ℕ) (new : List ℕ) (r : Named) (pot : List ℕ) (n : NamedIs l o r pot) {checked number : ℕ}
+    (checked-is : checked ≡ followed (r .refusal) (ask 10 (eqb (countAt pot (r .address .entry)) count))) (number-is : number ≡ followed checked (ask 11 (leb (at + length new) 512))) where
+  abbrev write-rest : Address → List Question
+  write-rest p = roomAsks (writeChanges l at new p) (meaningOf l)
 
-  pub write-refused : r .refusal ≢ 0 → Kept (write o count at new) l (answered (numbered (r .refusal))) l
+  pub write-refused : number ≢ 0 → Kept (write o count at new) l (answered (numbered number)) l
   unfolding asks frameCall refusal
-  write-refused z = refused-by (write o count at new) l (λ k. refl) (r .refusal) (asks-stop l o (keyAsks l count) write-more r n z) z
+  write-refused h = refused-by (write o count at new) l (λ k. refl) number (key-no l o count r pot n 10 _ checked-is number-is write-rest h) h
 
-  module _ (z : r .refusal ≡ 0) where
-    write-asked : firstNo (asks (write o count at new) l) ≡ firstNo (write-more (r .address))
+  module _ (h : number ≡ 0) where
+    pub write-named : r .refusal ≡ 0
+    write-named = key-named l o count r pot n 10 _ checked-is number-is h
+
+    pub write-fits : at + length new ≤ 512
+    write-fits = leb-true (at + length new) 512 (key-own l o count r pot n 10 _ checked-is number-is h)
+
+    write-room : firstNo (asks (write o count at new) l) ≡ firstNo (roomAsks (writeChanges l at new (r .address)) (meaningOf l))
     unfolding asks
-    write-asked = asks-on l o (keyAsks l count) write-more r n (omega arith, tt) z
+    write-room = key-on l o count r pot n 10 _ checked-is number-is h write-rest
 
-    pub write-11 : leb (at + length new) 512 ≡ false → Kept (write o count at new) l (answered (numbered 11)) l
-    unfolding frameCall refusal
-    write-11 h = refused-by (write o count at new) l (λ k. refl) 11 (write-asked ∙ asked-no 11 _ _ h) (λ q. omega (arith, q))
+    write-call : frameCall (write o count at new) l ≡ frames.change (writeChanges l at new (r .address))
+    unfolding frameCall atPlace
+    write-call = rw (n .place-is write-named) refl
 
-    module _ (fits : leb (at + length new) 512 ≡ true) where
-      write-room : firstNo (asks (write o count at new) l) ≡ firstNo (roomAsks (writeChanges l at new (r .address)) (meaningOf l))
-      write-room = write-asked ∙ asked-yes 11 _ _ fits
+    -- no bytes: no frame changes
+    pub write-nothing : length new ≡ 0 → Kept (write o count at new) l (answered (numbered number)) l
+    unfolding doneAnswer writeChanges
+    write-nothing e =
+        let nothing : writeChanges l at new (r .address) ≡ [] = rw (eq-eqb (length new) 0 e) in
+        rw (h, answered-done)
+        (keeps-same (write o count at new) l (write-room ∙ (rw nothing (change-none (meaningOf l) .0))) (write-call ∙ ap frames.change nothing) (names-together l o r pot n write-named))
 
-      write-call : frameCall (write o count at new) l ≡ frames.change (writeChanges l at new (r .address))
-      unfolding frameCall atPlace
-      write-call = rw (n .place-is z) refl
+    module _ (some : length new ≢ 0) (x : List ℕ) (x-long : length x ≡ 512) (x-is : x ≡ patch (pageBytes (presentFrames l) (r .address)) at new) (d : Done) {after : List ℕ} where
+      write-kept : (names bytes : List ℕ) → framesWith names bytes ≡ writeFrames (presentFrames l) (r .address) at new
+          → ChangeKept (l .store) (l .memory) names bytes d after → Kept (write o count at new) l (answered (numbered (d .answer))) (lent (d .store) after (l .card))
+      unfolding doneAnswer refusal writeChanges
+      write-kept names bytes are k =
+          change-kept (write o count at new) l (writeChanges l at new (r .address)) write-call (names-common l o r pot n write-named) write-room refl (λ q. refl)
+          names bytes d (are ∙ rw (ne-eqb (length new) 0 some) refl) k
 
-      -- no bytes: no frame changes
-      pub write-nothing : length new ≡ 0 → Kept (write o count at new) l (answered (numbered 0)) l
-      unfolding doneAnswer writeChanges
-      write-nothing h =
-          let nothing : writeChanges l at new (r .address) ≡ [] = rw (eq-eqb (length new) 0 h) in
-          rw answered-done
-          (keeps-same (write o count at new) l (write-room ∙ (rw nothing (change-none (meaningOf l) .0))) (write-call ∙ ap frames.change nothing) (names-together l o _ r n z))
+      -- the flag is clear: the page alone
+      pub write-page : isZero (flagsAt pot (r .address .entry)) ≡ false → {f : ℕ} → f ≡ r .address .page → ChangeKept (l .store) (l .memory) (f ∷ []) x d after
+          → Kept (write o count at new) l (answered (numbered (d .answer))) (lent (d .store) after (l .card))
+      unfolding writeFrames
+      write-page flag {f} name k = write-kept (f ∷ []) x (one-frame f x x-long ∙ rw (name, x-is, ← n .pot-is write-named, flag) refl) k
 
-      module _ (some : length new ≢ 0) {page : List ℕ} (page-is : page ≡ pageBytes (presentFrames l) (r .address))
-          (x : List ℕ) (x-long : length x ≡ 512) (x-is : x ≡ patch page at new) (d : Done) {after : List ℕ} where
-        write-kept : (names bytes : List ℕ) → framesWith names bytes ≡ writeFrames (presentFrames l) (r .address) at new
-            → ChangeKept (l .store) (l .memory) names bytes d after → Kept (write o count at new) l (answered (numbered (d .answer))) (lent (d .store) after (l .card))
-        unfolding doneAnswer refusal writeChanges
-        write-kept names bytes are k =
-            change-kept (write o count at new) l (writeChanges l at new (r .address)) write-call (names-common l o _ r n z) write-room refl (λ q. refl)
-            names bytes d (are ∙ rw (ne-eqb (length new) 0 some) refl) k
-
-        -- the flag is clear: the page alone
-        pub write-page : isZero (flagsAt (r .pot) (r .address .entry)) ≡ false → ChangeKept (l .store) (l .memory) (r .address .page ∷ []) x d after
-            → Kept (write o count at new) l (answered (numbered (d .answer))) (lent (d .store) after (l .card))
-        unfolding writeFrames
-        write-page flag k = write-kept (r .address .page ∷ []) x (one-frame (r .address .page) x x-long ∙ rw (x-is, page-is, ← n .pot-is z, flag) refl) k
-
-        -- it is set: the page, then the pot
-        pub write-both : isZero (flagsAt (r .pot) (r .address .entry)) ≡ true
-            → (y : List ℕ) → length y ≡ 512 → y ≡ putFlags (r .pot) (r .address .entry) (clearZero (flagsAt (r .pot) (r .address .entry)))
-            → ChangeKept (l .store) (l .memory) (r .address .page ∷ r .address .pot ∷ []) (x ++ y) d after
-            → Kept (write o count at new) l (answered (numbered (d .answer))) (lent (d .store) after (l .card))
-        unfolding writeFrames
-        write-both flag y y-long y-is k =
-            write-kept (r .address .page ∷ r .address .pot ∷ []) (x ++ y)
-            (two-frames (r .address .page) (r .address .pot) x y x-long y-long ∙ rw (x-is, y-is, page-is, ← n .pot-is z, flag) refl) k
+      -- it is set: the page, then the pot
+      pub write-both : isZero (flagsAt pot (r .address .entry)) ≡ true
+          → (y : List ℕ) → length y ≡ 512 → y ≡ putFlags pot (r .address .entry) (clearZero (flagsAt pot (r .address .entry)))
+          → {f g : ℕ} → f ≡ r .address .page → g ≡ r .address .pot → {both : List ℕ} → both ≡ x ++ y → ChangeKept (l .store) (l .memory) (f ∷ g ∷ []) both d after
+          → Kept (write o count at new) l (answered (numbered (d .answer))) (lent (d .store) after (l .card))
+      unfolding writeFrames
+      write-both flag y y-long y-is {f} {g} name other {both} both-is k =
+          write-kept (f ∷ g ∷ []) both (ap (framesWith (f ∷ g ∷ [])) both-is ∙ two-frames f g x y x-long y-long ∙ rw (name, other, x-is, y-is, ← n .pot-is write-named, flag) refl) k

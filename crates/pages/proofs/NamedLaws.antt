@@ -1,10 +1,10 @@
 -- A page that a call names: where it lies, the frames that are changed for it, and how the questions after 9 follow.
 -- Assumes nothing.
-use Prim.Native.Nat.{ℕ, _+_, _*_, _≤_, _<_}
-use borrow.Author.Tests.{lt-ltb, le-leb}
-use lib.Dec.{leb}
-use lib.ListN.{length, getD, length-append}
-use mathlib.Core.Bool.{true, false}
+use Prim.Native.Nat.{ℕ, suc, _+_, _*_, _≤_, _<_}
+use borrow.Author.Tests.{eqb-true, lt-ltb, le-leb, eq-eqb, ne-eqb}
+use lib.Dec.{leb, eqb}
+use lib.ListN.{length, length-append}
+use mathlib.Core.Bool.{Bool, true, false}
 use mathlib.Core.List.{List, [], _∷_, _++_, append-nil}
 use mathlib.Core.Logic.{_≢_}
 use mathlib.Core.Path.{_≡_, refl, ap, sym, _∙_}
@@ -12,14 +12,14 @@ use native.Mathlib.Decide.{ℕ-discrete}
 use native.Mathlib.Omega.{arith}
 use Rattle.card.proofs.AddressLaws.{Within, lies-home}
 use Rattle.card.proofs.BlockLaws.{block-first, block-second}
-use Rattle.card.proofs.BytesLaws.{tab-length, tab-list}
-use Rattle.card.proofs.QuestionLaws.{asked-no, group-yes, group-no}
+use Rattle.card.proofs.BytesLaws.{tab-length}
+use Rattle.card.proofs.QuestionLaws.{none-asked, asked-yes, asked-no, passed-both, group-yes, group-no}
 use Rattle.card.proofs.RangeLaws.{geometry-tells}
 use Rattle.card.proofs.Test.{joined}
 use Rattle.card.specs.Block.{blockAt}
 use Rattle.card.specs.Bytes.{tabulate, All, zeros}
 use Rattle.card.specs.Pot.{countAt, flagsAt, isZero}
-use Rattle.card.specs.Question.{Question, firstNo}
+use Rattle.card.specs.Question.{Question, ask, firstNo}
 use Rattle.card.specs.Range.{rangeIn, rangesOf}
 use Rattle.card.specs.declared.range.Address.{Address}
 use Rattle.card.specs.declared.range.Lookup.{Lookup}
@@ -28,11 +28,10 @@ use Rattle.frames.proofs.ReadyLaws.{ready, common-passed, common-both, common-r
 use Rattle.frames.specs.Parts.{framesWith, Changing}
 use Rattle.frames.specs.Promise.{Lent, meaningOf, commonAsks, common}
 use Rattle.pages.specs.Page.{pageBytes}
-use Rattle.pages.specs.Promise.{addressOf, atPlace, presentFrames, presentCount, placed, NamedIs}
+use Rattle.pages.specs.Promise.{addressOf, atPlace, presentFrames, presentCount, placed, followed, NamedIs}
 use Rattle.pages.specs.declared.named.Named.{Named}
 use Rattle.record.proofs.Held.{held}
 use Rattle.record.proofs.ListLaws.{elem-miss, elem-end, once-first, once-end, within-yes, within-end}
-use Rattle.record.proofs.Tests.{within-each}
 use Rattle.record.specs.Holds.{holdsTogether}
 use Rattle.record.specs.Lists.{elem, once, within, allWithin}
 use Rattle.record.specs.declared.store.Store.{Store}
@@ -95,18 +94,6 @@ module _ (s : Store) (memory : List ℕ) (card : ℕ) (passed : firstNo (commonA
       within-yes _ _ (p .page) names (p .pot ∷ []) refl (lies-within _ _ (p .page) (omega (arith, w .page-low)) (w .page-high)) ∙ pot .home in
       changing names (x ++ y) (omega arith) single home (simp length-append (omega (arith, m, n)))
 
--- frames that are named are small numbers
-changing-small : (s : Store) (memory names bytes : List ℕ) → Changing s memory names bytes → (k : ℕ) → k < length names → getD names k 0 < 65536
-changing-small s memory names bytes h k l =
-    let home = within-each (s .geometry .area + 1) (s .geometry .blocks) (λ i. getD names i 0) 0 (length names) (rw (tab-list 0 names) (h .home)) k (omega arith) (omega arith) in
-    omega (arith, home .1, h .card-few)
-
-pub changing-first : (s : Store) (memory : List ℕ) (f : ℕ) (fs bytes : List ℕ) → Changing s memory (f ∷ fs) bytes → f < 65536
-changing-first s memory f fs bytes h = changing-small s memory (f ∷ fs) bytes h 0 (omega arith)
-
-pub changing-second : (s : Store) (memory : List ℕ) (f g : ℕ) (fs bytes : List ℕ) → Changing s memory (f ∷ g ∷ fs) bytes → g < 65536
-changing-second s memory f g fs bytes h = changing-small s memory (f ∷ g ∷ fs) bytes h 1 (omega arith)
-
 -- ---- frames with their bytes
 
 pub one-frame : (f : ℕ) (x : List ℕ) → length x ≡ 512 → framesWith (f ∷ []) x ≡ record { frame = f; bytes = x } ∷ []
@@ -133,10 +120,10 @@ page-empty v p pot e h = rw (← e, h)
 
 -- ---- the questions after 9
 
-placed-stop : (a : Lookup) (first more : Address → List Question) → firstNo (placed a first) ≢ 0 → firstNo (placed a (λ p. first p ++ more p)) ≡ firstNo (placed a first)
+placed-stop : (a : Lookup) (rest : Address → List Question) → firstNo (placed a (λ p. [])) ≢ 0 → firstNo (placed a rest) ≡ firstNo (placed a (λ p. []))
 unfolding atPlace
-placed-stop Outside first more z = refl
-placed-stop (Located p) first more z = group-no (first p) (more p) z
+placed-stop Outside rest z = refl
+placed-stop (Located p) rest z = absurd (z none-asked)
 
 module _ (l : Lent) (oid : ℕ) where
   -- by 1 to 3 and the place
@@ -145,56 +132,110 @@ module _ (l : Lent) (oid : ℕ) where
   asks-outside rest h e =
       common-passed (l .store) (length (l .memory)) (length (l .card)) _ h ∙ ap (λ (a : Lookup). firstNo (placed a rest)) e ∙ asked-no 9 false [] refl
 
-  pub asks-located : (rest : Address → List Question) (p : Address) → firstNo (common l) ≡ 0 → addressOf l oid ≡ Located p
+  asks-located : (rest : Address → List Question) (p : Address) → firstNo (common l) ≡ 0 → addressOf l oid ≡ Located p
       → firstNo (common l ++ placed (addressOf l oid) rest) ≡ firstNo (rest p)
   unfolding atPlace
   asks-located rest p h e = common-passed (l .store) (length (l .memory)) (length (l .card)) _ h ∙ ap (λ (a : Lookup). firstNo (placed a rest)) e
 
-  -- a refused page has no place to tell
-  pub names-no : (rest : Address → List Question) (r : Named) → r .refusal ≢ 0 → r .refusal ≡ firstNo (common l ++ placed (addressOf l oid) rest) → NamedIs l oid rest r
-  names-no rest r z e = record { refusal-is = e; place-is = λ h. absurd (z h); pot-is = λ h. absurd (z h) }
+  module _ (r : Named) (pot : List ℕ) where
+    -- a refused page has no place to tell
+    pub names-no : r .refusal ≢ 0 → r .refusal ≡ firstNo (common l ++ placed (addressOf l oid) (λ p. [])) → r .address .entry < 102 → NamedIs l oid r pot
+    names-no z e h = record { refusal-is = e; place-is = λ k. absurd (z k); pot-is = λ k. absurd (z k); entry-high = h }
 
-  -- one that passes, with its place and its pot
-  pub names-yes : (rest : Address → List Question) (r : Named) (p : Address) → firstNo (common l) ≡ 0 → addressOf l oid ≡ Located p
-      → r .refusal ≡ firstNo (rest p) → r .address ≡ p → r .pot ≡ presentFrames l (p .pot) → NamedIs l oid rest r
-  names-yes rest r p h e z a q = record {
-    refusal-is = z ∙ sym (asks-located rest p h e);
-    place-is = λ _. e ∙ ap Located (sym a);
-    pot-is = λ _. q ∙ ap (λ (x : Address). presentFrames l (x .pot)) (sym a);
-  }
+    -- one that passes, with its place and its pot
+    pub names-yes : r .refusal ≡ 0 → firstNo (common l) ≡ 0 → addressOf l oid ≡ Located (r .address) → pot ≡ presentFrames l (r .address .pot) → NamedIs l oid r pot
+    names-yes z h e q = record {
+      refusal-is = z ∙ sym (asks-located (λ p. []) (r .address) h e ∙ none-asked);
+      place-is = λ _. e;
+      pot-is = λ _. q;
+      entry-high = named-within l oid (r .address) h e .entry-high;
+    }
 
-  -- what a page that passed tells
-  module _ (rest : Address → List Question) (r : Named) (n : NamedIs l oid rest r) (z : r .refusal ≡ 0) where
-    pub names-common : firstNo (common l) ≡ 0
-    names-common = common-both (l .store) (length (l .memory)) (length (l .card)) (placed (addressOf l oid) rest) (sym (n .refusal-is) ∙ z) .0
+    module _ (n : NamedIs l oid r pot) where
+      -- refused: no question after it is reached
+      pub names-stop : (rest : Address → List Question) → r .refusal ≢ 0 → firstNo (common l ++ placed (addressOf l oid) rest) ≡ r .refusal
+      names-stop rest z = go (ℕ-discrete (firstNo (common l)) 0) ∙ sym (n .refusal-is)
+        where
+          go : Dec (firstNo (common l) ≡ 0) → firstNo (common l ++ placed (addressOf l oid) rest) ≡ firstNo (common l ++ placed (addressOf l oid) (λ p. []))
+          go (no d) = common-refused (l .store) _ _ _ d ∙ sym (common-refused (l .store) _ _ _ d)
+          go (yes h) =
+              let e = common-passed (l .store) (length (l .memory)) (length (l .card)) (placed (addressOf l oid) (λ p. [])) h in
+              common-passed (l .store) _ _ _ h ∙ placed-stop (addressOf l oid) rest (λ k. z (n .refusal-is ∙ e ∙ k)) ∙ sym e
 
-    pub names-count : countAt (r .pot) (r .address .entry) ≡ presentCount l (r .address)
-    names-count = ap (λ (x : List ℕ). countAt x (r .address .entry)) (n .pot-is z)
+      -- passed: what it tells, and the rest counts
+      module _ (z : r .refusal ≡ 0) where
+        pub names-common : firstNo (common l) ≡ 0
+        names-common = common-both (l .store) (length (l .memory)) (length (l .card)) (placed (addressOf l oid) (λ p. [])) (sym (n .refusal-is) ∙ z) .0
 
-    pub names-within : Within (1 + l .store .geometry .area) (l .store .geometry .blocks) (r .address)
-    names-within = named-within l oid (r .address) names-common (n .place-is z)
+        pub names-count : countAt pot (r .address .entry) ≡ presentCount l (r .address)
+        names-count = ap (λ (x : List ℕ). countAt x (r .address .entry)) (n .pot-is z)
 
-  -- more questions after those that were asked: none is reached, or the rest counts
-  module _ (first more : Address → List Question) (r : Named) (n : NamedIs l oid first r) where
-    pub asks-stop : r .refusal ≢ 0 → firstNo (common l ++ placed (addressOf l oid) (λ p. first p ++ more p)) ≡ r .refusal
-    asks-stop z = go (ℕ-discrete (firstNo (common l)) 0) ∙ sym (n .refusal-is)
+        pub names-within : Within (1 + l .store .geometry .area) (l .store .geometry .blocks) (r .address)
+        names-within = named-within l oid (r .address) names-common (n .place-is z)
+
+        pub names-on : (rest : Address → List Question) → firstNo (common l ++ placed (addressOf l oid) rest) ≡ firstNo (rest (r .address))
+        names-on rest = asks-located rest (r .address) names-common (n .place-is z)
+
+-- ---- one question more
+
+pub followed-no : (number : ℕ) (q : Question) → number ≢ 0 → followed number q ≡ number
+followed-no number q h = asked-no number (eqb number 0) (q ∷ []) (ne-eqb number 0 h)
+
+pub followed-on : (number : ℕ) (q : Question) → number ≡ 0 → followed number q ≡ firstNo (q ∷ [])
+followed-on number q h = asked-yes number (eqb number 0) (q ∷ []) (eq-eqb number 0 h)
+
+-- after a group of questions it is asked last
+followed-group : (ps : List Question) (q : Question) → All (λ (p : Question). 0 < p .number) ps → followed (firstNo ps) q ≡ firstNo (ps ++ (q ∷ []))
+followed-group ps q numbers = go (ℕ-discrete (firstNo ps) 0)
+  where
+    go : Dec (firstNo ps ≡ 0) → followed (firstNo ps) q ≡ firstNo (ps ++ (q ∷ []))
+    go (yes z) = followed-on (firstNo ps) q z ∙ sym (group-yes ps (q ∷ []) numbers z)
+    go (no d) = followed-no (firstNo ps) q d ∙ sym (group-no ps (q ∷ []) d)
+
+-- A call that names a page by its key, and asks one question of its own: 10 follows 9, then that one, then the rest.
+module _ (l : Lent) (oid count : ℕ) (r : Named) (pot : List ℕ) (n : NamedIs l oid r pot) (m : ℕ) (own : Bool) {checked number : ℕ}
+    (checked-is : checked ≡ followed (r .refusal) (ask 10 (eqb (countAt pot (r .address .entry)) count))) (number-is : number ≡ followed checked (ask (suc m) own)) where
+  abbrev keyAsks : Address → List Question
+  keyAsks p = ask 10 (eqb (presentCount l p) count) ∷ ask (suc m) own ∷ []
+
+  key-refused : r .refusal ≢ 0 → number ≡ r .refusal
+  key-refused d =
+      let e : checked ≡ r .refusal = checked-is ∙ followed-no (r .refusal) _ d in
+      number-is ∙ followed-no checked _ (λ z. d (sym e ∙ z)) ∙ e
+
+  key-asked : r .refusal ≡ 0 → number ≡ firstNo (keyAsks (r .address))
+  key-asked z =
+      let first = ask 10 (eqb (presentCount l (r .address)) count) in
+      let e : checked ≡ firstNo (first ∷ []) = checked-is ∙ rw (z, names-count l oid r pot n z) (asked-yes 0 _ (first ∷ []) refl) in
+      number-is ∙ ap (λ (k : ℕ). followed k (ask (suc m) own)) e ∙ followed-group (first ∷ []) (ask (suc m) own) (omega arith, tt)
+
+  -- refused
+  pub key-no : (rest : Address → List Question) → number ≢ 0 → firstNo (common l ++ placed (addressOf l oid) (λ p. keyAsks p ++ rest p)) ≡ number
+  key-no rest h = go (ℕ-discrete (r .refusal) 0)
+    where
+      go : Dec (r .refusal ≡ 0) → firstNo (common l ++ placed (addressOf l oid) (λ p. keyAsks p ++ rest p)) ≡ number
+      go (yes z) = names-on l oid r pot n z _ ∙ group-no (keyAsks (r .address)) (rest (r .address)) (λ e. h (key-asked z ∙ e)) ∙ sym (key-asked z)
+      go (no d) = names-stop l oid r pot n _ d ∙ sym (key-refused d)
+
+  -- passed
+  module _ (h : number ≡ 0) where
+    pub key-named : r .refusal ≡ 0
+    key-named = go (ℕ-discrete (r .refusal) 0)
       where
-        go : Dec (firstNo (common l) ≡ 0) → firstNo (common l ++ placed (addressOf l oid) (λ p. first p ++ more p)) ≡ firstNo (common l ++ placed (addressOf l oid) first)
-        go (no d) = common-refused (l .store) _ _ _ d ∙ sym (common-refused (l .store) _ _ _ d)
-        go (yes h) =
-            let e = common-passed (l .store) (length (l .memory)) (length (l .card)) (placed (addressOf l oid) first) h in
-            common-passed (l .store) _ _ _ h ∙ placed-stop (addressOf l oid) first more (λ k. z (n .refusal-is ∙ e ∙ k)) ∙ sym e
+        go : Dec (r .refusal ≡ 0) → r .refusal ≡ 0
+        go (yes z) = z
+        go (no d) = absurd (d (sym (key-refused d) ∙ h))
 
-    pub asks-on : All (λ (q : Question). 0 < q .number) (first (r .address)) → r .refusal ≡ 0
-        → firstNo (common l ++ placed (addressOf l oid) (λ p. first p ++ more p)) ≡ firstNo (more (r .address))
-    asks-on numbers z =
-        let h = names-common first r n z in
-        let e = n .place-is z in
-        let first-yes : firstNo (first (r .address)) ≡ 0 = sym (asks-located first (r .address) h e) ∙ sym (n .refusal-is) ∙ z in
-        asks-located (λ p. first p ++ more p) (r .address) h e ∙ group-yes (first (r .address)) (more (r .address)) numbers first-yes
+    key-both : (eqb (presentCount l (r .address)) count ≡ true) × (own ≡ true)
+    key-both =
+        let a = passed-both 9 _ _ (sym (key-asked key-named) ∙ h) in
+        (a .0, passed-both m own [] (a .1) .0)
 
-    pub names-stop : r .refusal ≢ 0 → NamedIs l oid (λ p. first p ++ more p) r
-    names-stop z = names-no (λ p. first p ++ more p) r z (sym (asks-stop z))
+    pub key-fits : countAt pot (r .address .entry) ≡ count
+    key-fits = names-count l oid r pot n key-named ∙ eqb-true _ count (key-both .0)
 
-    pub names-on : All (λ (q : Question). 0 < q .number) (first (r .address)) → r .refusal ≡ 0 → firstNo (more (r .address)) ≡ 0 → NamedIs l oid (λ p. first p ++ more p) r
-    names-on numbers z e = record { refusal-is = z ∙ sym (asks-on numbers z ∙ e); place-is = n .place-is; pot-is = n .pot-is }
+    pub key-own : own ≡ true
+    key-own = key-both .1
+
+    pub key-on : (rest : Address → List Question) → firstNo (common l ++ placed (addressOf l oid) (λ p. keyAsks p ++ rest p)) ≡ firstNo (rest (r .address))
+    key-on rest = names-on l oid r pot n key-named _ ∙ asked-yes 10 _ _ (key-both .0) ∙ asked-yes (suc m) own _ key-own

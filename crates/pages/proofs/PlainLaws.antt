@@ -294,7 +294,7 @@ module _ (rs : List Range) (blocks area : ℕ) (full : blocks ≡ 1 + area + all
     }
     agrees pageOut k own = record {
       asked = tt;
-      answer-is = refl;
+      answer-is = unfold answered frames.doneAnswer in (ap (λ (w : BlockWrite). wrote page (w .block)) (out-is (meaningOf l) t (b .ledger-is) blocks area rs (l .card) (b .follows) own));
       write-is = unfold frames.doneWrite in (ap (λ (w : BlockWrite). some w) (out-is (meaningOf l) t (b .ledger-is) blocks area rs (l .card) (b .follows) own));
       frames-are = unfold told in refl;
       ledger-is = unfold frames.after in (rw (b .ledger-is) (blank-pageOut (meaningOf l)));

@@ -144,7 +144,7 @@ plainDone (read o n x) t = answers (filled 0 (t .rows o .page .bytes)) t
 plainDone (write o n at new) t = answers done (atPlace t (plainAddress t o) (plainWrite o at new t))
 plainDone (rescind o n) t = answers done (atPlace t (plainAddress t o) (plainRescind o t))
 plainDone snapshot t = answers done (record { rows = t .rows; changed = false; ledger = afterSnapshot (t .ledger); frames = bookSnapshot (t .frames) })
-plainDone pageOut t = record { answer = done; write = some (plainPageOut t); next = record { rows = t .rows; changed = t .changed; ledger = afterPageOut (t .ledger); frames = t .frames } }
+plainDone pageOut t = record { answer = wrote page (plainPageOut t .block); write = some (plainPageOut t); next = record { rows = t .rows; changed = t .changed; ledger = afterPageOut (t .ledger); frames = t .frames } }
 plainDone advance t = plainAdvance (firstOf (remainingWrites (t .ledger))) t
 
 unfoldable pub plainDoes : Call → Plain → PlainOutcome

@@ -1,6 +1,6 @@
 -- The promise of the nine calls: what each is to do with what it is lent, refusals included (document 01, 'The calls' and 'Questions asked').
 -- Assumes nothing.
-use Prim.Native.Nat.{ℕ, _+_, _/_, _%_}
+use Prim.Native.Nat.{ℕ, _+_, _/_, _%_, _<_}
 use lib.Dec.{leb, ltb, eqb}
 use lib.ListN.{length}
 use mathlib.Core.Bool.{false, cond, _&&_}
@@ -33,7 +33,7 @@ pub data Call : Type 0 where
   rescind : (oid count : ℕ) → Call
   snapshot pageOut advance : Call
 
--- refused with document 01's number; done; key's count; read's number, 0 where it is done, and its buffer after the call, refused or not; advance's kind and block
+-- refused with document 01's number; done; key's count; read's number, 0 where it is done, and its buffer after the call, refused or not; the kind and block that advance or page-out wrote
 pub data Answer : Type 0 where
   refused : (number : ℕ) → Answer
   done : Answer
@@ -114,7 +114,7 @@ doneAnswer (read o n x) l = atPlace (filled 9 x) (addressOf l o) (λ p. filled 0
 doneAnswer (write o n at new) l = done
 doneAnswer (rescind o n) l = done
 doneAnswer snapshot l = done
-doneAnswer pageOut l = done
+doneAnswer pageOut l = answered (frames.doneAnswer frames.pageOut l)
 doneAnswer advance l = answered (frames.doneAnswer frames.advance l)
 
 unfoldable pub refusal : Call → ℕ → Answer
@@ -151,8 +151,13 @@ pub record FormatKept (area : ℕ) (numbers before : List ℕ) (a : Answer) (car
 
 -- ---- what the parts of the calls promise
 
--- a page that a call names: the number of questions 1 to 3, 9 and those that follow it, and, where that is 0, its place and its pot
-pub record NamedIs (l : Lent) (oid : ℕ) (rest : Address → List Question) (r : Named) : Type 0 where
-  pub refusal-is : r .refusal ≡ firstNo (common l ++ placed (addressOf l oid) rest)
+-- the number of questions that were asked, with one question more
+abbrev pub followed : ℕ → Question → ℕ
+followed number q = firstNo (ask number (eqb number 0) ∷ q ∷ [])
+
+-- a page that a call names: the number of questions 1 to 3 and 9, and, where that is 0, its place and its pot. Its entry is one of a pot's in any case
+pub record NamedIs (l : Lent) (oid : ℕ) (r : Named) (pot : List ℕ) : Type 0 where
+  pub refusal-is : r .refusal ≡ firstNo (common l ++ placed (addressOf l oid) (λ p. []))
   pub place-is : r .refusal ≡ 0 → addressOf l oid ≡ Located (r .address)
-  pub pot-is : r .refusal ≡ 0 → r .pot ≡ presentFrames l (r .address .pot)
+  pub pot-is : r .refusal ≡ 0 → pot ≡ presentFrames l (r .address .pot)
+  pub entry-high : r .address .entry < 102

@@ -2,7 +2,6 @@
 pub mod advance;
 pub mod answer;
 pub mod format;
-mod frame;
 pub mod key;
 mod named;
 pub mod page_out;

@@ -1,5 +1,4 @@
-// The page that a call names: questions 1 to 3, 9 and 10, its place, its pot and its bytes.
-use card::block;
+// The page that a call names: questions 1 to 3, 9 and 10, its place and its pot.
 use card::pot;
 use card::range;
 use card::range::Address;
@@ -8,102 +7,85 @@ use frames::load;
 use frames::question;
 use record::store::Store;
 ghost use mathlib.Core.Path.{_≡_};
-ghost use mathlib.Core.List.{[], _∷_};
 ghost use Prim.Native.Nat.{_<_};
 ghost use lib.Dec.{eqb};
 ghost use lib.ListN.{length};
-ghost use Rattle.card.specs.Question.{ask, firstNo};
-ghost use Rattle.card.specs.Pot.{isZero, flagsAt};
-ghost use Rattle.frames.specs.Promise.{lent, commonAsks};
-ghost use Rattle.pages.specs.Page.{pageBytes};
-ghost use Rattle.pages.specs.Promise.{presentFrames, presentCount, NamedIs};
+ghost use Rattle.card.specs.Question.{ask};
+ghost use Rattle.card.specs.Pot.{countAt, isZero, flagsAt};
+ghost use Rattle.frames.specs.Promise.{lent};
+ghost use Rattle.pages.specs.Promise.{followed, NamedIs};
 
-// Where it stands, and its pot's bytes. `refusal` is the number of the question that was answered "no", or 0.
+// Where it stands. `refusal` is the number of the question that was answered "no", or 0.
 #[repr(C)]
 pub struct Named {
     pub refusal: u32,
     pub address: Address,
-    pub pot: [u8; 512],
 }
 
 fn refused(no: u32) -> Named
-    ensures { λ r. ⌜ r .refusal ≡ no ⌝ }
+    ensures { λ r. ⌜ (r .refusal ≡ no) × (r .address .entry < 102) ⌝ }
 {
     let address = Address {
         page: 0,
         pot: 0,
         entry: 0,
     };
-    let pot = block::empty();
     Named {
         refusal: no,
         address: address,
-        pot: pot,
     }
 }
 
-// With its pot, newest bytes.
-fn with_pot(s: Store, card: &[u8], memory: &[u8], address: Address) -> Named
-    requires { ⌜ (firstNo (commonAsks s (length (now memory)) (length (now card))) ≡ 0) × (address .pot < s .geometry .blocks) ⌝ }
-    ensures { λ r. ⌜ (r .refusal ≡ 0) × ((r .address ≡ address) × (r .pot ≡ presentFrames (lent s (now (memory .entry)) (now (card .entry))) (address .pot))) ⌝ }
-{
-    let mut pot = block::empty();
-    load::load(s, card, memory, address.pot, &mut pot);
-    Named {
-        refusal: 0,
-        address: address,
-        pot: pot,
-    }
-}
-
-// By its OID: 1 to 3, and 9.
-pub fn find(s: Store, card: &[u8], memory: &[u8], oid: u32) -> Named
-    ensures { λ r. ⌜ NamedIs (lent s (now (memory .entry)) (now (card .entry))) oid (λ p. []) r ⌝ }
+// By its OID: 1 to 3, and 9. Fills `pot` with the newest bytes of its pot.
+pub fn find(s: Store, card: &[u8], memory: &[u8], oid: u32, pot: &mut [u8]) -> Named
+    requires { ⌜ length (now pot) ≡ 512 ⌝ }
+    ensures { λ r. ⌜ NamedIs (lent s (now (memory .entry)) (now (card .entry))) oid r (now (pot .exit)) ⌝ }
 {
     let no = question::common(s, memory.len(), card.len());
     if no != 0 {
         return refused(no);
     }
+    // copied out: a record that is itself borrowed would be copied for each call
     let g = s.geometry;
     match range::find(g.area, &g.ranges, g.count, oid) {
-        Lookup::Located(address) => with_pot(s, card, memory, address),
+        Lookup::Located(address) => {
+            load::load(s, card, memory, address.pot, pot);
+            Named {
+                refusal: 0,
+                address: address,
+            }
+        }
         Lookup::Outside => refused(9),
     }
 }
 
-// By its key: 10 too.
-pub fn check(s: Store, card: &[u8], memory: &[u8], oid: u32, count: u32) -> Named
-    ensures { λ r. ⌜ NamedIs (lent s (now (memory .entry)) (now (card .entry))) oid (λ p. ask 10 (eqb (presentCount (lent s (now (memory .entry)) (now (card .entry))) p) count) ∷ []) r ⌝ }
+// One question more: its number, if it is answered "no" and none before it was.
+pub fn ask(no: u32, number: u32, yes: bool) -> u32
+    ensures { λ r. ⌜ r ≡ followed no (ask number yes) ⌝ }
 {
-    let n = find(s, card, memory, oid);
-    if n.refusal != 0 {
-        return n;
+    if no != 0 {
+        return no;
     }
-    let present = pot::count_at(&n.pot, n.address.entry);
-    if present != count {
-        return refused(10);
+    if yes {
+        return 0;
     }
-    n
+    number
+}
+
+// By its key: 10 too.
+pub fn check(n: Named, pot: &[u8; 512], count: u32) -> u32
+    requires { ⌜ n .address .entry < 102 ⌝ }
+    ensures { λ r. ⌜ r ≡ followed (n .refusal) (ask 10 (eqb (countAt (now (pot .entry)) (n .address .entry)) count)) ⌝ }
+{
+    let present = pot::count_at(pot, n.address.entry);
+    ask(n.refusal, 10, present == count)
 }
 
 // Is its flag set?
-pub fn is_zero(n: Named) -> bool
-    requires { ⌜ n .address .entry < 102 ⌝ }
-    ensures { λ r. ⌜ r ≡ isZero (flagsAt (n .pot) (n .address .entry)) ⌝ }
+pub fn is_zero(pot: &[u8; 512], entry: usize) -> bool
+    requires { ⌜ entry < 102 ⌝ }
+    ensures { λ r. ⌜ r ≡ isZero (flagsAt (now (pot .entry)) entry) ⌝ }
 {
-    let flags = pot::flags_at(&n.pot, n.address.entry);
+    let flags = pot::flags_at(pot, entry);
     pot::is_zero(flags)
-}
-
-// Its bytes: an empty frame if the flag is set.
-pub fn bytes(s: Store, card: &[u8], memory: &[u8], n: Named) -> [u8; 512]
-    requires { ⌜ (firstNo (commonAsks s (length (now memory)) (length (now card))) ≡ 0)
-        × ((n .address .page < s .geometry .blocks) × ((n .address .entry < 102) × (n .pot ≡ presentFrames (lent s (now memory) (now card)) (n .address .pot)))) ⌝ }
-    ensures { λ r. ⌜ r ≡ pageBytes (presentFrames (lent s (now (memory .entry)) (now (card .entry)))) (n .address) ⌝ }
-{
-    let mut page = block::empty();
-    if !is_zero(n) {
-        load::load(s, card, memory, n.address.page, &mut page);
-    }
-    page
 }

@@ -1,15 +1,18 @@
 // Write: lent bytes at an offset of a page. The page changes first, then, if its flag was set, its pot.
-use super::frame;
 use super::named;
-use super::named::Named;
+use card::block;
+use card::number;
 use card::pot;
 use frames::answer::Done;
+use frames::change;
+use frames::load;
 use record::store::Store;
 ghost use mathlib.Core.Path.{_≡_};
+ghost use mathlib.Core.List.{_++_};
 ghost use Prim.Native.Nat.{_+_, _≤_, _<_};
 ghost use lib.Dec.{leb};
 ghost use lib.ListN.{length};
-ghost use Rattle.card.specs.Bytes.{patch};
+ghost use Rattle.card.specs.Bytes.{patch, zeros};
 ghost use Rattle.card.specs.Pot.{flagsAt, putFlags, clearZero};
 ghost use Rattle.frames.specs.Promise.{lent, numbered};
 ghost use Rattle.pages.specs.Promise.{write, answered, Kept};
@@ -24,27 +27,33 @@ fn fits(at: usize, len: usize) -> bool
     len <= 512 - at
 }
 
-// A page with new bytes at an offset.
-fn patched(page: [u8; 512], at: usize, new: &[u8]) -> [u8; 512]
-    requires { ⌜ at + length (now new) ≤ 512 ⌝ }
-    ensures { λ r. ⌜ r ≡ patch page at (now (new .entry)) ⌝ }
+// New bytes at an offset.
+fn patch(bytes: &mut [u8], at: usize, new: &[u8])
+    requires { ⌜ at + length (now new) ≤ length (now bytes) ⌝ }
+    ensures { λ _. ⌜ now (bytes .exit) ≡ patch (now (bytes .entry)) at (now (new .entry)) ⌝ }
 {
-    let mut p = page;
     let end = at + new.len();
-    bytes::copy(new, &mut p[at..end]);
-    p
+    bytes::copy(new, &mut bytes[at..end]);
 }
 
-// A page's pot with its flag cleared.
-fn cleared(n: Named) -> [u8; 512]
-    requires { ⌜ n .address .entry < 102 ⌝ }
-    ensures { λ r. ⌜ r ≡ putFlags (n .pot) (n .address .entry) (clearZero (flagsAt (n .pot) (n .address .entry))) ⌝ }
+// New bytes on an empty frame, and the page's pot after it.
+fn lay(both: &mut [u8], at: usize, new: &[u8], pot: &[u8; 512])
+    requires { ⌜ (length (now both) ≡ 1024) × (at + length (now new) ≤ 512) ⌝ }
+    ensures { λ _. ⌜ now (both .exit) ≡ patch zeros at (now (new .entry)) ++ now (pot .entry) ⌝ }
 {
-    let i = n.address.entry;
-    let mut p = n.pot;
-    let flags = pot::flags_at(&p, i);
-    pot::put_flags(&mut p, i, pot::clear_zero(flags));
-    p
+    let mut page = block::empty();
+    patch(&mut page, at, new);
+    block::put(both, 0, &page);
+    block::put(both, 1, pot);
+}
+
+// In a pot: the flag of entry i cleared.
+fn clear(pot: &mut [u8], i: usize)
+    requires { ⌜ (length (now pot) ≡ 512) × (i < 102) ⌝ }
+    ensures { λ _. ⌜ now (pot .exit) ≡ putFlags (now (pot .entry)) i (clearZero (flagsAt (now (pot .entry)) i)) ⌝ }
+{
+    let flags = pot::flags_at(pot, i);
+    pot::put_flags(pot, i, pot::clear_zero(flags));
 }
 
 pub fn write(
@@ -59,30 +68,26 @@ pub fn write(
     ensures { λ r. ⌜ Kept (write oid count at (now (new .entry))) (lent s (now (memory .entry)) (now (card .entry))) (answered (numbered (r .answer)))
         (lent (r .store) (now (memory .exit)) (now (card .entry))) ⌝ }
 {
-    let n = named::check(s, card, memory, oid, count);
-    if n.refusal != 0 {
+    let mut pot = block::empty();
+    let n = named::find(s, card, memory, oid, &mut pot);
+    let checked = named::check(n, &pot, count);
+    let no = named::ask(checked, 11, fits(at, new.len()));
+    if no != 0 || new.len() == 0 {
         return Done {
-            answer: n.refusal,
+            answer: no,
             store: s,
         };
     }
-    if !fits(at, new.len()) {
-        return Done {
-            answer: 11,
-            store: s,
-        };
+    if named::is_zero(&pot, n.address.entry) {
+        clear(&mut pot, n.address.entry);
+        let mut both = [0u8; 1024];
+        lay(&mut both, at, new, &pot);
+        let names = [number::short(n.address.page), number::short(n.address.pot)];
+        return change::change(s, memory, &names, &both);
     }
-    if new.len() == 0 {
-        return Done {
-            answer: 0,
-            store: s,
-        };
-    }
-    let page = named::bytes(s, card, memory, n);
-    let changed = patched(page, at, new);
-    if named::is_zero(n) {
-        let pot = cleared(n);
-        return frame::change_two(s, memory, n.address.page, changed, n.address.pot, pot);
-    }
-    frame::change(s, memory, n.address.page, changed)
+    let mut page = block::empty();
+    load::load(s, card, memory, n.address.page, &mut page);
+    patch(&mut page, at, new);
+    let names = [number::short(n.address.page)];
+    change::change(s, memory, &names, &page)
 }

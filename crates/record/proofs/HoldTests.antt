@@ -4,16 +4,20 @@ use Prim.Native.Nat.{ℕ, _+_, _-_, _≤_, _<_}
 use borrow.Author.Tests.{ltb-true, leb-true, eqb-true, le-leb, lt-leb, eq-eqb, ne-eqb}
 use lib.Dec.{leb, eqb}
 use mathlib.Core.Bool.{true}
+use mathlib.Core.List.{[]}
 use mathlib.Core.Logic.{⊎-elim}
-use mathlib.Core.Path.{_≡_, sym, _∙_}
+use mathlib.Core.Path.{_≡_, refl, sym, _∙_}
 use native.Mathlib.Omega.{arith}
 use Rattle.card.proofs.RangeLaws.{geometry-tells}
-use Rattle.card.proofs.RingLaws.{entries-small}
+use Rattle.card.proofs.RingLaws.{size-some, entries-small}
 use Rattle.card.proofs.Test.{both, le-or-lt}
 use Rattle.card.specs.Range.{rangesOf}
 use Rattle.card.specs.Ring.{half}
-use Rattle.record.specs.Holds.{geometryHolds, committedHolds, pendingHolds, currentHolds, sizesHold, countsHold, spansHold}
+use Rattle.record.proofs.ListLaws.{cells-none, stand-no, stand-end}
+use Rattle.record.specs.Holds.{geometryHolds, committedHolds, pendingHolds, currentHolds, sizesHold, countsHold, spansHold, changesHold}
+use Rattle.record.specs.Lists.{once, alone, allAlone, allWithin}
 use Rattle.record.specs.Meaning.{sizeOf, committedSizeOf}
+use Rattle.record.specs.declared.store.Changes.{Changes}
 use Rattle.record.specs.declared.store.Store.{Store}
 
 -- a sum tested as a difference
@@ -22,6 +26,19 @@ sum-leb a b c h = ⊎-elim
     (λ k. le-leb b (c - a) (omega arith) ∙ sym (le-leb (a + b) c k))
     (λ k. lt-leb b (c - a) (omega arith) ∙ sym (lt-leb (a + b) c k))
     (le-or-lt (a + b) c)
+
+-- ---- an empty directory
+
+stand-none : (k to : ℕ) → allAlone [] k (to - k) ≡ leb to k
+unfolding alone
+stand-none k to = ⊎-elim
+    (λ h. stand-end [] k to h ∙ sym (le-leb to k h))
+    (λ h. stand-no [] k to h refl ∙ sym (lt-leb to k h))
+    (le-or-lt to k)
+
+pub none-hold : (area blocks : ℕ) (g : Changes) → g .count ≡ 0 → changesHold area blocks g ≡ leb (g .taken) (g .down)
+unfolding changesHold allWithin once
+none-hold area blocks g e = rw (e, cells-none (g .frames), cells-none (g .places)) (stand-none (g .down) (g .taken))
 
 -- ---- sizes
 
@@ -123,7 +140,8 @@ pub record Small (s : Store) : Type 0 where
   pub first : s .first ≤ s .geometry .area
   pub committed : s .committed .count ≤ 256
   pub pending : s .pending .count ≤ 256
-  pub current : s .current .count ≤ 256
+  pub pending-taken : 0 < s .pending .count → s .pending .taken < 256
+  pub current-taken : 0 < s .current .count → s .current .taken < 256
 
 pub sizes-small : (s : Store) → countsHold s ≡ true → sizesHold (s .geometry .area) (committedSizeOf s) (sizeOf (s .pending)) (sizeOf (s .current)) ≡ true → Small s
 sizes-small s e f =
@@ -133,8 +151,14 @@ sizes-small s e f =
     let area : s .geometry .area ≤ 512 = c .area in
     let a : s .committed .count ≤ most = entries-small (s .pages) (s .committed .count) most (c .committed) (z .half-a) in
     let b : s .pending .count ≤ most = entries-small (s .pending .taken) (s .pending .count) most (c .pending) (z .half-b) in
-    let d : s .current .count ≤ most = entries-small (s .current .taken) (s .current .count) most (c .current) (z .half-c) in
-    record { area = area; first = c .first; committed = omega arith; pending = omega arith; current = omega arith }
+    record {
+      area = area;
+      first = c .first;
+      committed = omega arith;
+      pending = omega arith;
+      pending-taken = λ l. omega (arith, size-some (s .pending .taken) (s .pending .count) l, z .half-b);
+      current-taken = λ l. omega (arith, size-some (s .current .taken) (s .current .count) l, z .half-c);
+    }
 
 pub spans-small : (s : Store) → countsHold s ≡ true → spansHold s ≡ true → Small s
 unfolding spansHold

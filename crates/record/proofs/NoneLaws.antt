@@ -2,7 +2,7 @@
 -- Assumes nothing.
 use Prim.Native.Nat.{ℕ}
 use mathlib.Core.List.{List, []}
-use mathlib.Core.Path.{_≡_, ap}
+use mathlib.Core.Path.{_≡_, refl, ap}
 use native.Mathlib.Omega.{arith}
 use Rattle.card.proofs.BytesLaws.{tab-none}
 use Rattle.card.proofs.RingLaws.{size-none}
@@ -19,6 +19,13 @@ pub record NoChange (g : Changes) : Type 0 where
 
 pub none-is : (g : Changes) → g ≡ zeroChanges → NoChange g
 none-is g e = record { count = ap (λ (x : Changes). x .count) e; taken = ap (λ (x : Changes). x .taken) e; down = ap (λ (x : Changes). x .down) e }
+
+-- a generation that is emptied: its arrays stay as they were
+abbrev pub emptied : Changes → Changes
+emptied g = record { count = 0; taken = 0; down = 0; frames = g .frames; places = g .places }
+
+pub emptied-none : (g : Changes) → NoChange (emptied g)
+emptied-none g = record { count = refl; taken = refl; down = refl }
 
 module _ (g : Changes) (none : NoChange g) where
   pub none-waits : waits g ≡ 0

@@ -5,11 +5,11 @@ use borrow.Author.Tests.{ltb-true, leb-true, eqb-false, not-true, lt-ltb, le-leb
 use lib.Dec.{leb, ltb, eqb}
 use mathlib.Core.Bool.{Bool, true, false, cond, _&&_, false≢true}
 use mathlib.Core.List.{List}
-use mathlib.Core.Logic.{_≢_}
+use mathlib.Core.Logic.{_≢_, ⊎-elim}
 use mathlib.Core.Path.{_≡_, refl, ap, sym, _∙_}
 use native.Mathlib.Decide.{ℕ-discrete}
 use native.Mathlib.Omega.{arith}
-use Rattle.card.proofs.Test.{both, joined}
+use Rattle.card.proofs.Test.{both, joined, le-or-lt}
 use Rattle.card.specs.Bytes.{tabulate}
 use Rattle.record.specs.Lists.{elem, once, alone, allAlone, within, allWithin}
 
@@ -83,6 +83,24 @@ module _ (f : ℕ → ℕ) where
   apart-once i (suc n) h =
       rw (none-elem f (f i) (suc i) n (λ k a b e. h i k (omega arith) (omega arith) (omega arith) (sym e)))
       (apart-once (suc i) n (λ j k a l b. h j k (omega arith) l (omega arith)))
+
+  pub once-front : (m n : ℕ) → m ≤ n → once (tabulate f 0 n) ≡ true → once (tabulate f 0 m) ≡ true
+  once-front m n h e = apart-once 0 m (λ j k a l b. once-apart 0 n e j k a l (omega arith))
+
+  -- one more value, not among those before it
+  pub once-next : (i : ℕ) → once (tabulate f 0 i) ≡ true → elem (f i) (tabulate f 0 i) ≡ false → once (tabulate f 0 (i + 1)) ≡ true
+  once-next i h new = apart-once 0 (i + 1) (λ j k a l b. ⊎-elim
+      (λ m. let e : k ≡ i = omega arith in rw e (elem-none f (f i) 0 i new j a (omega arith)))
+      (λ m. once-apart 0 i h j k a l (omega arith))
+      (le-or-lt i k))
+
+  -- one that is among them
+  pub once-again : (i n : ℕ) → i < n → elem (f i) (tabulate f 0 i) ≡ true → once (tabulate f 0 n) ≡ false
+  once-again i n h old = go (once (tabulate f 0 n)) refl
+    where
+      go : (t : Bool) → once (tabulate f 0 n) ≡ t → t ≡ false
+      go true e = absurd (false≢true (sym (none-elem f (f i) 0 i (λ k a b. once-apart 0 n e k i a (omega arith) (omega arith))) ∙ old))
+      go false e = refl
 
   -- ---- alone
 

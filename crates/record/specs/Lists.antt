@@ -1,6 +1,6 @@
 -- Tests over numbers, and what becomes of an array.
 -- Assumes nothing.
-use Prim.Native.Nat.{ℕ, zero, suc, _+_, _≤_, _<_}
+use Prim.Native.Nat.{ℕ, zero, suc, _+_, _*_, _/_, _%_, _≤_, _<_}
 use lib.Dec.{leb, ltb, eqb}
 use lib.ListN.{length, getD}
 use mathlib.Core.Bool.{Bool, true, false, cond, _&&_, not}
@@ -28,6 +28,11 @@ unfoldable pub alone : ℕ → List ℕ → Bool
 alone x [] = false
 alone x (y ∷ ys) = cond (eqb y x) (not (elem x ys)) (alone x ys)
 
+-- how often x stands there
+unfoldable pub times : ℕ → List ℕ → ℕ
+times x [] = 0
+times x (y ∷ ys) = cond (eqb y x) (suc (times x ys)) (times x ys)
+
 -- do n numbers from k on stand there, each once only?
 unfoldable pub allAlone : List ℕ → ℕ → ℕ → Bool
 allAlone l k zero = true
@@ -40,6 +45,16 @@ within low high x = leb low x && ltb x high
 unfoldable pub allWithin : ℕ → ℕ → List ℕ → Bool
 allWithin low high [] = true
 allWithin low high (y ∷ ys) = within low high y && allWithin low high ys
+
+-- The bucket of x, of 256. The factor is 2^32 by the golden ratio, which spreads numbers at any one distance over the buckets.
+unfoldable pub bucketOf : ℕ → ℕ
+bucketOf x = x * 2654435769 / 16777216 % 256
+
+-- The elements of a chain, from element k on. `next` has the element that follows each; element 0 ends every chain. At most n links are followed.
+unfoldable pub chain : List ℕ → List ℕ → ℕ → ℕ → List ℕ
+chain l next zero k = getD l 0 0 ∷ []
+chain l next (suc n) zero = getD l 0 0 ∷ []
+chain l next (suc n) (suc k) = getD l (suc k) 0 ∷ chain l next n (getD next (suc k) 0)
 
 -- the first place of n at which x stands, or n
 pub record First (l : List ℕ) (n x i : ℕ) : Type 0 where

@@ -1,6 +1,5 @@
 // Question 2: does the record hold together? Sizes are asked before any loop, so that no directory is read beyond its array.
 use super::list;
-use super::store::Changes;
 use super::store::Geometry;
 use super::store::Store;
 use card::directory;
@@ -8,7 +7,7 @@ use card::range;
 use card::ring;
 ghost use mathlib.Core.Path.{_≡_};
 ghost use mathlib.Core.Bool.{true};
-ghost use Prim.Native.Nat.{_+_, _≤_};
+ghost use Prim.Native.Nat.{_+_, _≤_, _<_};
 ghost use lib.Dec.{leb};
 ghost use Rattle.card.specs.Ring.{generationSize};
 ghost use Rattle.record.specs.Holds.{geometryHolds, committedHolds, pendingHolds, currentHolds, sizesHold, tailFor, orderHolds, memoryHolds, countsHold, spansHold, changesHold, holdsTogether};
@@ -202,23 +201,68 @@ fn spans_hold(s: Store) -> bool
     memory_holds(s.frames, s.head, p, c)
 }
 
-fn changes_hold(area: usize, blocks: usize, g: Changes) -> bool
-    requires { ⌜ (area ≤ 512) × (g .count ≤ 256) ⌝ }
-    ensures { λ r. ⌜ r ≡ changesHold area blocks g ⌝ }
+// Does the directory of a generation of n entries and p places, d of them down, hold?
+fn changes_hold<'a>(
+    area: usize,
+    blocks: usize,
+    n: usize,
+    p: usize,
+    d: usize,
+    frames: &'a [u16; 256],
+    places: &'a [u16; 256],
+) -> bool
+    requires { ⌜ (area ≤ 512) × ((n ≤ p) × (p < 256)) ⌝ }
+    ensures { λ r. ⌜ r ≡ changesHold area blocks (record { count = n; taken = p; down = d; frames = now (frames .entry); places = now (places .entry) }) ⌝ }
 {
-    let n = g.count;
-    let p = g.taken;
-    let d = g.down;
-    if !list::all_within(&g.frames, n, area + 1, blocks) {
+    if !list::all_within(frames, n, area + 1, blocks) {
         return false;
     }
-    if !list::all_once(&g.frames, n) {
+    if !list::all_once(frames, n) {
         return false;
     }
-    if !list::all_within(&g.places, n, 0, p) {
+    if !list::all_within(places, n, 0, p) {
         return false;
     }
-    list::all_stand(&g.places, n, d, p)
+    list::all_stand(places, n, d, p)
+}
+
+// An empty directory is settled first: it need not be copied, and its places may be many.
+fn pending_listed(s: Store) -> bool
+    requires { ⌜ (countsHold s ≡ true) × (spansHold s ≡ true) ⌝ }
+    ensures { λ r. ⌜ r ≡ changesHold (s .geometry .area) (s .geometry .blocks) (s .pending) ⌝ }
+{
+    if s.pending.count == 0 {
+        return s.pending.taken <= s.pending.down;
+    }
+    let g = s.pending;
+    changes_hold(
+        s.geometry.area,
+        s.geometry.blocks,
+        g.count,
+        g.taken,
+        g.down,
+        &g.frames,
+        &g.places,
+    )
+}
+
+fn current_listed(s: Store) -> bool
+    requires { ⌜ (countsHold s ≡ true) × (spansHold s ≡ true) ⌝ }
+    ensures { λ r. ⌜ r ≡ changesHold (s .geometry .area) (s .geometry .blocks) (s .current) ⌝ }
+{
+    if s.current.count == 0 {
+        return s.current.taken <= s.current.down;
+    }
+    let g = s.current;
+    changes_hold(
+        s.geometry.area,
+        s.geometry.blocks,
+        g.count,
+        g.taken,
+        g.down,
+        &g.frames,
+        &g.places,
+    )
 }
 
 // Question 2, of any record.
@@ -231,12 +275,10 @@ pub fn holds_together(s: Store) -> bool
     if !spans_hold(s) {
         return false;
     }
-    let area = s.geometry.area;
-    let blocks = s.geometry.blocks;
     let d = s.committed;
     if !directory::fits(
-        blocks,
-        area,
+        s.geometry.blocks,
+        s.geometry.area,
         s.first,
         s.pages,
         &d.frames,
@@ -245,10 +287,8 @@ pub fn holds_together(s: Store) -> bool
     ) {
         return false;
     }
-    let b = s.pending;
-    if !changes_hold(area, blocks, b) {
+    if !pending_listed(s) {
         return false;
     }
-    let c = s.current;
-    changes_hold(area, blocks, c)
+    current_listed(s)
 }

@@ -19,8 +19,8 @@ pub struct Changes {
     pub count: usize,
     pub taken: usize,
     pub down: usize,
-    pub frames: [u32; 256],
-    pub places: [u32; 256],
+    pub frames: [u16; 256],
+    pub places: [u16; 256],
 }
 
 // `frames` is the number of memory frames. Those that wait stand in them one after the other from `head` on, the pending ones first; after the last comes
@@ -49,8 +49,8 @@ pub fn no_change() -> Changes
         count: 0,
         taken: 0,
         down: 0,
-        frames: [0u32; 256],
-        places: [0u32; 256],
+        frames: [0u16; 256],
+        places: [0u16; 256],
     }
 }
 
@@ -66,8 +66,8 @@ pub fn zeros() -> Store
     };
     let committed = Directory {
         count: 0,
-        frames: [0u32; 256],
-        blocks: [0u32; 256],
+        frames: [0u16; 256],
+        blocks: [0u16; 256],
     };
     let pending = no_change();
     let current = no_change();

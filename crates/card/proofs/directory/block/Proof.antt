@@ -1,9 +1,9 @@
 -- `card::directory::block` meets its contract. The loop has put the first k entries of the block.
 -- Assumes nothing.
-use Prim.Native.Nat.{ℕ, _+_, _-_, _*_, _≤_, min}
-use lib.ListN.{length, getD}
+use Prim.Native.Nat.{ℕ, _-_, _*_, _≤_, min}
+use lib.ListN.{length}
 use mathlib.Core.List.{List, [], _∷_}
-use mathlib.Core.Path.{_≡_, refl, ap, sym, _∙_}
+use mathlib.Core.Path.{_≡_, ap, sym, _∙_}
 use native.Mathlib.Omega.{arith}
 use Rattle.card.proofs.BytesLaws.{patch-none, zeros-length}
 use Rattle.card.proofs.DirectoryLaws.{frontBytes, front-more, front-all}
@@ -23,12 +23,14 @@ loop-holds c = (omega arith, (c .before .empty .ensures ∙ sym (patch-none zero
 
 loop-again : tie.Need-loop-again Inv-loop μ-loop
 loop-again c =
-    let at-start = c .before .before .before .before .before .before .before .before .before .before in
-    let at-loop = c .before .before .before .before .before .before .before .loop in
+    let at-start = c .before .before .before .before .before .before .before .before .before .before .before .before in
+    let at-loop = c .before .before .before .before .before .before .before .before .before .loop in
     let a = at-start .args in
     let l = at-loop in
     let p = c .before .put-words in
-    (omega arith, (p .ensures ∙ ap (λ (s : List ℕ). patch s (8 * l .k) (words (getD (a .frames .now) (64 * a .j + l .k) 0 ∷ getD (a .blocks .now) (64 * a .j + l .k) 0 ∷ []))) (l .inv .1 .0) ∙ front-more (a .frames .now) (a .blocks .now) (64 * a .j) (l .k) _ _ (omega arith) refl refl, omega (arith, p .kept .0)))
+    let frame = c .before .before .before .before .before .before .word in
+    let block = c .before .before .before .before .word2 in
+    (omega arith, (p .ensures ∙ ap (λ (s : List ℕ). patch s (8 * l .k) (words (frame .result ∷ block .result ∷ []))) (l .inv .1 .0) ∙ front-more (a .frames .now) (a .blocks .now) (64 * a .j) (l .k) _ _ (omega arith) (frame .ensures .0) (block .ensures .0), omega (arith, p .kept .0)))
 
 returns : tie.Need-returns Inv-loop μ-loop
 returns c =
@@ -52,9 +54,11 @@ block-spec =
     (λ c. omega arith)
     (λ c. omega arith)
     (λ c. omega arith)
+    (λ c κs. omega arith)
     (λ c. omega arith)
     (λ c. omega arith)
     (λ c. omega arith)
+    (λ c κs. omega arith)
     (λ c. omega arith)
     (λ c. omega arith)
     (λ c. omega arith)

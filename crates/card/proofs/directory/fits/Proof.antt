@@ -29,7 +29,7 @@ returns c =
     let at-loop = c .before .before .before .before .before .before .before .loop in
     let a = at-start .args in
     let l = at-loop in
-    sym (fit-stops (a .card) (a .area) (a .first) (a .p) (l .low) _ _ _ (entry-next (a .frames .now) (a .blocks .now) (l .i) (a .count) _ _ (omega arith) (c .before .before .before .before .wide .ensures .0) (c .before .before .wide2 .ensures .0)) (said-no (c .before .entry-fits .ensures) (c .if1 .taken)))
+    sym (fit-stops (a .card) (a .area) (a .first) (a .p) (l .low) _ _ _ (entry-next (entryIn (a .frames .now) (a .blocks .now)) (l .i) (a .count) _ _ (omega arith) (c .before .before .before .before .from-short .ensures .0) (c .before .before .from-short2 .ensures .0)) (said-no (c .before .entry-fits .ensures) (c .if1 .taken)))
     ∙ l .inv .1
 
 loop-again : tie.Need-loop-again Inv-loop μ-loop
@@ -39,7 +39,7 @@ loop-again c =
     let a = at-start .args in
     let l = at-loop in (
       omega arith,
-      sym (fit-more (a .card) (a .area) (a .first) (a .p) (l .low) _ _ _ (entry-next (a .frames .now) (a .blocks .now) (l .i) (a .count) _ _ (omega arith) (c .before .before .before .before .wide .ensures .0) (c .before .before .wide2 .ensures .0)) (said-yes (c .before .entry-fits .ensures) (c .if1 .left)))
+      sym (fit-more (a .card) (a .area) (a .first) (a .p) (l .low) _ _ _ (entry-next (entryIn (a .frames .now) (a .blocks .now)) (l .i) (a .count) _ _ (omega arith) (c .before .before .before .before .from-short .ensures .0) (c .before .before .from-short2 .ensures .0)) (said-yes (c .before .entry-fits .ensures) (c .if1 .left)))
           ∙ l .inv .1,
     )
 

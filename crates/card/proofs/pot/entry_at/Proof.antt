@@ -22,7 +22,7 @@ right k x = eqb x (entryAt k)
 
 returns : tie.Need-returns
 unfolding right fives
-returns c = c .wide .ensures ∙ eqb→eq (getD (fives 102 0) (c .before .args .i) 0) (entryAt (c .before .args .i)) (table-rule right (fives 102 0) tt (c .before .args .i) (search needs))
+returns c = c .from-short .ensures .0 ∙ eqb→eq (getD (fives 102 0) (c .before .args .i) 0) (entryAt (c .before .args .i)) (table-rule right (fives 102 0) tt (c .before .args .i) (search needs))
 
 pub entry-at-spec : {M : Type 1} → statement M
 entry-at-spec =

@@ -13,16 +13,16 @@ use Rattle.frames.proofs.kind.directory_block.Tie as tie
 
 sorted-requires : tie.Need-sorted-requires
 sorted-requires c κs =
-    let s = c .before .before .before .args .s in
-    let w = c .before .before .before .pre .0 in
+    let s = c .before .before .before .before .before .before .args .s in
+    let w = c .before .before .before .before .before .before .pre .0 in
     let h = held s (w .together) in
-    let more = c .before .before .before .pre .1 .1 in
+    let more = c .before .before .before .before .before .before .pre .1 .1 in
     let any : 0 < s .pending .count = omega (arith, more) in
-    sortable s h any _ (c .before .pending-first .ensures)
+    sortable s h any _ (c .before .before .before .before .pending-first .ensures)
 
 block-requires : tie.Need-block-requires
 block-requires c κs =
-    let at-start = c .before .before .before .before .before .before .before in
+    let at-start = c .before .before .before .before .before .before .before .before .before .before in
     let s = at-start .args .s in
     let w = at-start .pre .0 in
     let h = held s (w .together) in
@@ -32,7 +32,7 @@ block-requires c κs =
 
 add-at : tie.Need-add-at
 add-at c =
-    let at-start = c .before .before .before .before .before .before .before .before .before in
+    let at-start = c .before .before .before .before .before .before .before .before .before .before .before .before in
     let s = at-start .args .s in
     let w = at-start .pre .0 in
     let h = held s (w .together) in
@@ -42,8 +42,8 @@ add-at c =
 
 at-requires : tie.Need-at-requires
 at-requires c κs =
-    let at-start = c .before .before .before .before .before .before .before .before .before in
-    let at-pending-first = c .before .before .before .before .before .before .before .pending-first in
+    let at-start = c .before .before .before .before .before .before .before .before .before .before .before .before in
+    let at-pending-first = c .before .before .before .before .before .before .before .before .before .before .pending-first in
     let s = at-start .args .s in
     let w = at-start .pre .0 in
     let h = held s (w .together) in
@@ -53,8 +53,8 @@ at-requires c κs =
 
 put-requires : tie.Need-put-requires
 put-requires c κs =
-    let at-start = c .before .before .before .before .before .before .before .before .before .before .before .before in
-    let at-pending-first = c .before .before .before .before .before .before .before .before .before .before .pending-first in
+    let at-start = c .before .before .before .before .before .before .before .before .before .before .before .before .before .before .before in
+    let at-pending-first = c .before .before .before .before .before .before .before .before .before .before .before .before .before .pending-first in
     let s = at-start .args .s in
     let w = at-start .pre .0 in
     let h = held s (w .together) in
@@ -66,7 +66,7 @@ put-requires c κs =
 
 tail-down-requires : tie.Need-tail-down-requires
 tail-down-requires c κs =
-    let at-start = c .before .before .before .before .before .before .before .before .before .before .before .before .before .before .before in
+    let at-start = c .before .before .before .before .before .before .before .before .before .before .before .before .before .before .before .before .before .before in
     let s = at-start .args .s in
     let w = at-start .pre .0 in
     let still = at-start .pre .1 .0 in
@@ -76,8 +76,8 @@ tail-down-requires c κs =
 
 returns : tie.Need-returns
 returns c =
-    let at-start = c .before .before .before .before .before .before .before .before .before .before .before .before .before .before .before .before in
-    let at-pending-first = c .before .before .before .before .before .before .before .before .before .before .before .before .before .before .pending-first in
+    let at-start = c .before .before .before .before .before .before .before .before .before .before .before .before .before .before .before .before .before .before .before in
+    let at-pending-first = c .before .before .before .before .before .before .before .before .before .before .before .before .before .before .before .before .before .pending-first in
     let at-at = c .before .before .before .before .before .before .at in
     let at-sorted = c .before .before .before .before .before .before .before .before .before .before .before .before .sorted in
     let at-block = c .before .before .before .before .before .before .before .before .block in

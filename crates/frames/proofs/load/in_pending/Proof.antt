@@ -14,18 +14,18 @@ returns : tie.Need-returns
 returns c =
     let at-start = c .before .before .before .before .before .before in
     let placed = pending-placed (at-start .args .s) (at-start .pre .0) in
-    under placed (c .before .before .find .ensures) (λ card memory f. committedBytes (at-start .args .s) f card memory) _ (c .before .if1 .taken) (c .in-committed .ensures)
+    under placed (c .before .before .before .find .ensures) (λ card memory f. committedBytes (at-start .args .s) f card memory) _ (c .before .if1 .taken) (c .in-committed .ensures)
 
 at-requires : tie.Need-at-requires
 at-requires c κs =
     let at-start = c .before .before .before .before .before .before .before in
     let placed = pending-placed (at-start .args .s) (at-start .pre .0) in
-    index-in placed (c .before .before .before .find .ensures) (c .before .before .if1 .left)
+    index-in placed (c .before .before .before .before .find .ensures) (c .before .before .if1 .left)
 
 at-requires-2 : tie.Need-at-requires-2
 at-requires-2 c κs =
     let at-start = c .before .before .before .before .before .before .before .before .before .before .before in
-    let at-find = c .before .before .before .before .before .before .before .find in
+    let at-find = c .before .before .before .before .before .before .before .before .find in
     let at-if1 = c .before .before .before .before .before .before .if1 in
     let placed = pending-placed (at-start .args .s) (at-start .pre .0) in
     ring-in placed (at-find .ensures) (at-if1 .left) (c .before .before .before .at .ensures .0) _ (c .pending-first .ensures)
@@ -33,7 +33,7 @@ at-requires-2 c κs =
 returns-2 : tie.Need-returns-2
 returns-2 c =
     let at-start = c .before .before .before .before .before .before .before .before .before .before .before .before in
-    let at-find = c .before .before .before .before .before .before .before .before .find in
+    let at-find = c .before .before .before .before .before .before .before .before .before .find in
     let at-if1 = c .before .before .before .before .before .before .before .if1 in
     let placed = pending-placed (at-start .args .s) (at-start .pre .0) in
     at-place placed (at-find .ensures) (at-if1 .left) (c .before .before .before .before .at .ensures .0) _ (c .before .pending-first .ensures) (λ card memory f. committedBytes (at-start .args .s) f card memory) _ (c .before .before .if2 .taken) (c .at2 .ensures)
@@ -41,7 +41,7 @@ returns-2 c =
 seat-requires : tie.Need-seat-requires
 seat-requires c κs =
     let at-start = c .before .before .before .before .before .before .before .before .before .before .before in
-    let at-find = c .before .before .before .before .before .before .before .find in
+    let at-find = c .before .before .before .before .before .before .before .before .find in
     let at-if1 = c .before .before .before .before .before .before .if1 in
     let placed = pending-placed (at-start .args .s) (at-start .pre .0) in
     (placed .together .head-low, (omega (arith, turn-in placed (at-find .ensures) (at-if1 .left) (c .before .before .before .at .ensures .0) (c .before .if2 .left)), (at-start .pre .1 .1)))
@@ -49,7 +49,7 @@ seat-requires c κs =
 returns-3 : tie.Need-returns-3
 returns-3 c =
     let at-start = c .before .before .before .before .before .before .before .before .before .before .before .before in
-    let at-find = c .before .before .before .before .before .before .before .before .find in
+    let at-find = c .before .before .before .before .before .before .before .before .before .find in
     let at-if1 = c .before .before .before .before .before .before .before .if1 in
     let placed = pending-placed (at-start .args .s) (at-start .pre .0) in
     at-turn placed (at-find .ensures) (at-if1 .left) (c .before .before .before .before .at .ensures .0) (λ card memory f. committedBytes (at-start .args .s) f card memory) _ (c .before .before .if2 .left) ((c .seat .ensures) ∙ ap (seatAt (at-start .args .s .frames) (at-start .args .s .head)) (sym (zero-add _)))
@@ -58,7 +58,7 @@ pub in-pending-spec : {M : Type 1} → statement M
 in-pending-spec =
     tie.close
     (tie.spec
-    (λ c κs. pending-placed (c .before .before .before .args .s) (c .before .before .before .pre .0) .few)
+    (λ c κs. pending-placed (c .before .before .args .s) (c .before .before .pre .0) .few)
     (λ c κs. search needs)
     returns
     at-requires

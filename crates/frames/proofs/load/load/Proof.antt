@@ -11,8 +11,8 @@ use Rattle.recovery.specs.State.{readFrame}
 use Rattle.frames.proofs.load.load.Statement.{statement}
 use Rattle.frames.proofs.load.load.Tie as tie
 
-narrow-requires : tie.Need-narrow-requires
-narrow-requires c κs =
+short-requires : tie.Need-short-requires
+short-requires c κs =
     let r = ready (c .before .before .before .args .s) _ _ (c .before .before .before .pre .0) in
     omega (arith, (c .before .before .before .pre .1 .0), r .blocks-high)
 
@@ -20,7 +20,7 @@ newest-requires : tie.Need-newest-requires
 newest-requires c κs =
     let at-start = c .before .before .before .before in
     let r = ready (at-start .args .s) _ _ (at-start .pre .0) in
-    rw (c .narrow .ensures) (r .together, ((at-start .pre .1 .0), r .frames-high))
+    rw (c .short .ensures) (r .together, ((at-start .pre .1 .0), r .frames-high))
 
 get-requires : tie.Need-get-requires
 get-requires c κs =
@@ -38,7 +38,7 @@ returns : tie.Need-returns
 returns c =
     let at-start = c .before .before .before .before .before .before .before .before .before .before in
     let at-newest = c .before .before .before .before .before .newest in
-    let at-narrow = c .before .before .before .before .before .before .narrow in
+    let at-narrow = c .before .before .before .before .before .before .short in
     let card = now (at-start .args .card) in
     let memory = now (at-start .args .memory) in
     (c .before .before .get .ensures)
@@ -50,7 +50,7 @@ returns-2 : tie.Need-returns-2
 returns-2 c =
     let at-start = c .before .before .before .before .before .before .before .before .before .before in
     let at-newest = c .before .before .before .before .before .newest in
-    let at-narrow = c .before .before .before .before .before .before .narrow in
+    let at-narrow = c .before .before .before .before .before .before .short in
     let card = now (at-start .args .card) in
     let memory = now (at-start .args .memory) in
     (c .before .before .get2 .ensures)
@@ -62,7 +62,7 @@ pub load-spec : {M : Type 1} → statement M
 load-spec =
     tie.close
     (tie.spec
-    narrow-requires
+    short-requires
     newest-requires
     get-requires
     get-requires-2

@@ -14,18 +14,18 @@ unfolding readFrame
 returns c =
     let at-start = c .before .before .before .before .before .before in
     let placed = current-placed (at-start .args .s) (at-start .pre .0) in
-    under placed (c .before .before .find .ensures) (λ card memory f. pendingBytes (at-start .args .s) f card memory) _ (c .before .if1 .taken) (c .in-pending .ensures)
+    under placed (c .before .before .before .find .ensures) (λ card memory f. pendingBytes (at-start .args .s) f card memory) _ (c .before .if1 .taken) (c .in-pending .ensures)
 
 at-requires : tie.Need-at-requires
 at-requires c κs =
     let at-start = c .before .before .before .before .before .before .before in
     let placed = current-placed (at-start .args .s) (at-start .pre .0) in
-    index-in placed (c .before .before .before .find .ensures) (c .before .before .if1 .left)
+    index-in placed (c .before .before .before .before .find .ensures) (c .before .before .if1 .left)
 
 at-requires-2 : tie.Need-at-requires-2
 at-requires-2 c κs =
     let at-start = c .before .before .before .before .before .before .before .before .before .before .before in
-    let at-find = c .before .before .before .before .before .before .before .find in
+    let at-find = c .before .before .before .before .before .before .before .before .find in
     let at-if1 = c .before .before .before .before .before .before .if1 in
     let placed = current-placed (at-start .args .s) (at-start .pre .0) in
     ring-in placed (at-find .ensures) (at-if1 .left) (c .before .before .before .at .ensures .0) _ (c .current-first .ensures)
@@ -34,7 +34,7 @@ returns-2 : tie.Need-returns-2
 unfolding readFrame
 returns-2 c =
     let at-start = c .before .before .before .before .before .before .before .before .before .before .before .before in
-    let at-find = c .before .before .before .before .before .before .before .before .find in
+    let at-find = c .before .before .before .before .before .before .before .before .before .find in
     let at-if1 = c .before .before .before .before .before .before .before .if1 in
     let placed = current-placed (at-start .args .s) (at-start .pre .0) in
     at-place placed (at-find .ensures) (at-if1 .left) (c .before .before .before .before .at .ensures .0) _ (c .before .current-first .ensures) (λ card memory f. pendingBytes (at-start .args .s) f card memory) _ (c .before .before .if2 .taken) (c .at2 .ensures)
@@ -47,7 +47,7 @@ sub-ahead c =
 add-seat : tie.Need-add-seat
 add-seat c =
     let at-start = c .before .before .before .before .before .before .before .before .before .before .before .before in
-    let at-find = c .before .before .before .before .before .before .before .before .find in
+    let at-find = c .before .before .before .before .before .before .before .before .before .find in
     let at-if1 = c .before .before .before .before .before .before .before .if1 in
     let placed = current-placed (at-start .args .s) (at-start .pre .0) in
     omega (arith, turn-in placed (at-find .ensures) (at-if1 .left) (c .before .before .before .before .at .ensures .0) (c .before .before .if2 .left), (at-start .pre .1 .1))
@@ -55,7 +55,7 @@ add-seat c =
 seat-requires : tie.Need-seat-requires
 seat-requires c κs =
     let at-start = c .before .before .before .before .before .before .before .before .before .before .before .before in
-    let at-find = c .before .before .before .before .before .before .before .before .find in
+    let at-find = c .before .before .before .before .before .before .before .before .before .find in
     let at-if1 = c .before .before .before .before .before .before .before .if1 in
     let placed = current-placed (at-start .args .s) (at-start .pre .0) in
     (placed .together .head-low, (omega (arith, turn-in placed (at-find .ensures) (at-if1 .left) (c .before .before .before .before .at .ensures .0) (c .before .before .if2 .left)), (at-start .pre .1 .1)))
@@ -64,7 +64,7 @@ returns-3 : tie.Need-returns-3
 unfolding readFrame
 returns-3 c =
     let at-start = c .before .before .before .before .before .before .before .before .before .before .before .before .before in
-    let at-find = c .before .before .before .before .before .before .before .before .before .find in
+    let at-find = c .before .before .before .before .before .before .before .before .before .before .find in
     let at-if1 = c .before .before .before .before .before .before .before .before .if1 in
     let placed = current-placed (at-start .args .s) (at-start .pre .0) in
     at-turn placed (at-find .ensures) (at-if1 .left) (c .before .before .before .before .before .at .ensures .0) (λ card memory f. pendingBytes (at-start .args .s) f card memory) _ (c .before .before .before .if2 .left) (c .seat .ensures)
@@ -73,7 +73,7 @@ pub newest-spec : {M : Type 1} → statement M
 newest-spec =
     tie.close
     (tie.spec
-    (λ c κs. current-placed (c .before .before .before .args .s) (c .before .before .before .pre .0) .few)
+    (λ c κs. current-placed (c .before .before .args .s) (c .before .before .pre .0) .few)
     (λ c κs. search needs)
     returns
     at-requires

@@ -3,10 +3,12 @@
 use borrow.Author.Needs.{needs}
 use mathlib.Core.Path.{sym, _∙_}
 use Rattle.frames.proofs.CallLaws.{page-out-common, page-out-none, page-out-pending, page-out-current}
+use Rattle.frames.specs.Promise.{reported}
 use Rattle.frames.proofs.page_out.page_out.Statement.{statement}
 use Rattle.frames.proofs.page_out.page_out.Tie as tie
 
 returns-2 : tie.Need-returns-2
+unfolding reported
 returns-2 c =
     let at-start = c .before .before .before .before .before .before .before .before .before .before .before in
     let at-common = c .before .before .before .before .before .before .before .before .common in
@@ -14,11 +16,13 @@ returns-2 c =
     page-out-pending (at-start .args .s) _ _ (sym (at-common .ensures) ∙ (at-if1 .left)) _ _ (c .before .before .before .before .before .if2 .taken) (c .before .before .before .pending .ensures)
 
 returns-3 : tie.Need-returns-3
+unfolding reported
 returns-3 c =
     let at-start = c .before .before .before .before .before .before .before .before in
     page-out-none (at-start .args .s) _ _ (sym (c .before .before .before .before .before .common .ensures) ∙ (c .before .before .before .before .if1 .left)) (c .before .before .if2 .left) (c .if3 .taken)
 
 returns-4 : tie.Need-returns-4
+unfolding reported
 returns-4 c =
     let at-start = c .before .before .before .before .before .before .before .before .before .before .before .before .before in
     let at-common = c .before .before .before .before .before .before .before .before .before .before .common in
@@ -27,6 +31,7 @@ returns-4 c =
     page-out-current (at-start .args .s) _ _ (sym (at-common .ensures) ∙ (at-if1 .left)) _ _ (at-if2 .left) (c .before .before .before .before .before .if3 .left) (c .before .before .before .current .ensures)
 
 pub page-out-spec : {M : Type 1} → statement M
+unfolding reported
 page-out-spec =
     tie.close
     (tie.spec

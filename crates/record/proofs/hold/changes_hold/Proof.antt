@@ -1,6 +1,7 @@
 -- `record::hold::changes_hold` meets its contract.
 -- Assumes nothing.
 use borrow.Author.Needs.{needs}
+use native.Mathlib.Omega.{arith}
 use Rattle.card.proofs.Test.{said-no, said-yes}
 use Rattle.record.specs.Holds.{changesHold}
 use Rattle.record.proofs.hold.changes_hold.Statement.{statement}
@@ -9,18 +10,17 @@ use Rattle.record.proofs.hold.changes_hold.Tie as tie
 returns-3 : tie.Need-returns-3
 unfolding changesHold
 returns-3 c =
-    let at-all-within = c .before .before .before .before .before .before .before .before .before .all-within in
-    let at-if1 = c .before .before .before .before .before .before .before .before .if1 in
-    rw (said-yes (at-all-within .ensures) (at-if1 .left), said-yes (c .before .before .before .before .before .all-once .ensures) (c .before .before .before .before .if2 .left), said-no (c .before .all-within2 .ensures) (c .if3 .taken))
+    let at-all-within = c .before .before .before .before .before .all-within in
+    rw (said-yes (at-all-within .ensures) (c .before .before .before .before .if1 .left), said-yes (c .before .before .before .all-once .ensures) (c .before .before .if2 .left), said-no (c .before .all-within2 .ensures) (c .if3 .taken))
+
+all-stand-requires : tie.Need-all-stand-requires
+all-stand-requires c κs = (omega arith, (omega arith, said-yes (c .before .all-within2 .ensures) (c .if3 .left)))
 
 returns-4 : tie.Need-returns-4
 unfolding changesHold
 returns-4 c =
-    let at-all-within = c .before .before .before .before .before .before .before .before .before .before .before .before .all-within in
-    let at-if1 = c .before .before .before .before .before .before .before .before .before .before .before .if1 in
-    let at-all-once = c .before .before .before .before .before .before .before .before .all-once in
-    let at-if2 = c .before .before .before .before .before .before .before .if2 in
-    rw (said-yes (at-all-within .ensures) (at-if1 .left), said-yes (at-all-once .ensures) (at-if2 .left), said-yes (c .before .before .before .before .all-within2 .ensures) (c .before .before .before .if3 .left)) (c .all-stand .ensures)
+    let at-all-within = c .before .before .before .before .before .before .all-within in
+    rw (said-yes (at-all-within .ensures) (c .before .before .before .before .before .if1 .left), said-yes (c .before .before .before .before .all-once .ensures) (c .before .before .before .if2 .left), said-yes (c .before .before .all-within2 .ensures) (c .before .if3 .left)) (c .all-stand .ensures)
 
 pub changes-hold-spec : {M : Type 1} → statement M
 unfolding changesHold
@@ -31,8 +31,8 @@ changes-hold-spec =
     (λ c κs. search needs)
     (λ c. rw (said-no (c .before .all-within .ensures) (c .if1 .taken)))
     (λ c κs. search needs)
-    (λ c. rw (said-yes (c .before .before .before .before .before .all-within .ensures) (c .before .before .before .before .if1 .left), said-no (c .before .all-once .ensures) (c .if2 .taken)))
+    (λ c. rw (said-yes (c .before .before .before .all-within .ensures) (c .before .before .if1 .left), said-no (c .before .all-once .ensures) (c .if2 .taken)))
     (λ c κs. search needs)
     returns-3
-    (λ c κs. search needs)
+    all-stand-requires
     returns-4)

@@ -13,5 +13,5 @@ lies-spec =
     tie.close
     (tie.spec
     (λ c κs. search needs)
-    (λ c. simp (lt-leb (c .before .before .args .low) (c .before .before .args .x) (omega (arith, c .before .wide .ensures))))
-    (λ c. simp (c .before .wide .ensures .0, le-leb (c .before .before .args .low) (c .before .before .args .x) (omega (arith, c .before .wide .ensures)))))
+    (λ c. simp (lt-leb (c .before .before .args .low) (c .before .before .args .x) (omega (arith, c .before .from-short .ensures))))
+    (λ c. simp (c .before .from-short .ensures .0, le-leb (c .before .before .args .low) (c .before .before .args .x) (omega (arith, c .before .from-short .ensures)))))

@@ -1,0 +1,3 @@
+-- Laws of answers in numbers, and the two demands of the linked calls.
+pub mod NumberLaws
+pub mod Demands

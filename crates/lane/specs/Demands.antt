@@ -1,0 +1,65 @@
+-- DEMANDS 2 AND 3 of the linked calls, as `pages` has them of the by-value ones, in what a lane program gets: numbers and buffers. That an exported function is the
+-- linked call of its name is said by its `ensures` (`src/call.rt`), which belong to these statements.
+-- Assumes nothing.
+use Prim.Native.Nat.{ℕ}
+use lib.ListN.{length}
+use mathlib.Core.Bool.{true}
+use mathlib.Core.List.{List, [], _∷_}
+use mathlib.Core.Option.{none, some}
+use mathlib.Core.Path.{_≡_}
+use Rattle.card.specs.Block.{whole}
+use Rattle.frames.specs.Promise.{Lent, lent, numbered}
+use Rattle.lane.specs.Linked.{Reply, number, filling, present, replyOf, Linked}
+use Rattle.pages.specs.Book.{Event, called, cutIn, cut, formatBook, bookAfter}
+use Rattle.pages.specs.Demand2.{plainAnswers, plainCard, NoStart}
+use Rattle.pages.specs.Demand3.{World, lentTo, Step, OfRanges}
+use Rattle.pages.specs.Page.{Page}
+use Rattle.pages.specs.Plain.{plainOf}
+use Rattle.pages.specs.Promise.{Call, start, key, read, Answer, answered, FormatKept}
+use Rattle.record.specs.Meaning.{zeroStore}
+use Rattle.recovery.specs.Step.{startState}
+
+-- ---- demand 2: every reply is the plain machine's answer in numbers
+
+-- a chain of linked calls, each lent what the last one left
+pub data LinkedCalls : List Call → Lent → List Reply → Lent → Type 0 where
+  finished : (l : Lent) → LinkedCalls [] l [] l
+  next : (c : Call) (cs : List Call) (r : Reply) (rs : List Reply) (l l₁ l₂ : Lent) → Linked c l r l₁ → LinkedCalls cs l₁ rs l₂ → LinkedCalls (c ∷ cs) l (r ∷ rs) l₂
+
+unfoldable pub replies : List Call → List Answer → List Reply
+replies [] as′ = []
+replies (c ∷ cs) [] = []
+replies (c ∷ cs) (a ∷ as′) = replyOf c a ∷ replies cs as′
+
+abbrev pub LinkedDemand2 : Type 0
+LinkedDemand2 = (m card : List ℕ) (l₀ : Lent) → Linked (start m) (lent zeroStore m card) (number 0) l₀
+    → (cs : List Call) → NoStart cs → (rs : List Reply) (l : Lent) → LinkedCalls cs l₀ rs l
+    → (rs ≡ replies cs (plainAnswers cs (plainOf (startState m card) card))) × (l .card ≡ plainCard cs (plainOf (startState m card) card) card)
+
+-- ---- demand 3: after any list of linked calls and cuts, start shows what the book keeps
+
+abbrev pub IsCut : Event → Type 0
+IsCut (called c a) = ⊥
+IsCut (cutIn c reached) = Unit {0}
+IsCut cut = Unit {0}
+
+-- a list of events; the book is fed the answer that a reply gives in numbers
+pub data LinkedRun : List Event → World → World → Type 0 where
+  ended : (w : World) → LinkedRun [] w w
+  calls : (c : Call) (r : Reply) (es : List Event) (u w : World) (l l′ : Lent) → lentTo c u ≡ some l → (k : Linked c l r l′) → LinkedRun es (record { card = l′ .card; held = some l′ }) w
+      → LinkedRun (called c (k .answer) ∷ es) u w
+  cuts : (e : Event) (es : List Event) (u v w : World) → IsCut e → Step e u v → LinkedRun es v w → LinkedRun (e ∷ es) u w
+
+-- key replies 0 and the page's count, and read with that key 0 and its bytes
+abbrev pub LinkedShows : Lent → ℕ → Page → Type 0
+LinkedShows l oid p = (refusal count number : ℕ) (before after : List ℕ) (l₁ l₂ : Lent) → length before ≡ 512
+    → Linked (key oid) l (present refusal count) l₁ → Linked (read oid (p .count) before) l₁ (filling number after) l₂
+    → (refusal ≡ 0) × (count ≡ p .count) × (number ≡ 0) × (after ≡ p .bytes)
+
+abbrev pub LinkedDemand3 : Type 0
+LinkedDemand3 = (area : ℕ) (numbers before card : List ℕ) → FormatKept area numbers before (answered (numbered 0)) card
+    → (es : List Event) (w : World) → LinkedRun es (record { card = card; held = none }) w
+    → (m : List ℕ) → whole 4 64 (length m) ≡ true
+    → (n : ℕ) (l : Lent) → Linked (start m) (lent zeroStore m (w .card)) (number n) l
+    → (n ≡ 0) × (l .card ≡ w .card)
+    × ((oid : ℕ) → OfRanges numbers oid → LinkedShows l oid (bookAfter es formatBook .kept oid))

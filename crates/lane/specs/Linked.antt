@@ -1,0 +1,94 @@
+-- The linked calls: the calls of the page layer over a record that is lent, with their answers in numbers.
+-- Assumes nothing.
+use Prim.Native.Nat.{ℕ}
+use mathlib.Core.List.{List, []}
+use mathlib.Core.Path.{_≡_}
+use Rattle.frames.specs.Promise.{Lent}
+use Rattle.frames.specs.declared.answer.Advance.{Advance}
+use Rattle.frames.specs.declared.answer.Advance.the-variants.{P, D, T, M, H, Refused}
+use Rattle.lane.specs.declared.answer.Present.{Present}
+use Rattle.lane.specs.declared.answer.Report.{Report}
+use Rattle.pages.specs.Promise.{Call, start, key, read, write, rescind, snapshot, pageOut, advance, Answer, refused, done, counted, filled, wrote, Kept}
+use Rattle.pages.specs.declared.answer.Count.{Count}
+use Rattle.pages.specs.declared.answer.Count.the-variants as Counts
+use Rattle.recovery.specs.Step.{Kind, page, directory, trailer, migration, header}
+
+-- what C gets of a call: a number; read's number and its buffer after the call; key's refusal and count; page-out's and advance's kind and block
+pub data Reply : Type 0 where
+  number : ℕ → Reply
+  filling : (refusal : ℕ) (buffer : List ℕ) → Reply
+  present : (refusal count : ℕ) → Reply
+  report : (kind block : ℕ) → Reply
+
+-- the enums' cases in numbers
+unfoldable pub presentOf : Count → Present
+presentOf (Counts.Present n) = record { refusal = 0; count = n }
+presentOf (Counts.Refused n) = record { refusal = n; count = 0 }
+
+unfoldable pub reportOf : Advance → Report
+reportOf (P b) = record { kind = 1; number = b }
+reportOf (D b) = record { kind = 2; number = b }
+reportOf (T b) = record { kind = 3; number = b }
+reportOf (M b) = record { kind = 4; number = b }
+reportOf (H b) = record { kind = 5; number = b }
+reportOf (Refused n) = record { kind = 0; number = n }
+
+unfoldable pub kindNumber : Kind → ℕ
+kindNumber page = 1
+kindNumber directory = 2
+kindNumber trailer = 3
+kindNumber migration = 4
+kindNumber header = 5
+
+-- what an answer tells in numbers: its number, 0 where the call is done; a count; bytes; a kind, 0 for none, and its block, or the refusal's number
+unfoldable pub numberOf : Answer → ℕ
+numberOf (refused n) = n
+numberOf done = 0
+numberOf (counted c) = 0
+numberOf (filled n b) = n
+numberOf (wrote k b) = 0
+
+unfoldable pub countOf : Answer → ℕ
+countOf (refused n) = 0
+countOf done = 0
+countOf (counted c) = c
+countOf (filled n b) = 0
+countOf (wrote k b) = 0
+
+unfoldable pub bytesOf : Answer → List ℕ
+bytesOf (refused n) = []
+bytesOf done = []
+bytesOf (counted c) = []
+bytesOf (filled n b) = b
+bytesOf (wrote k b) = []
+
+unfoldable pub kindOf : Answer → ℕ
+kindOf (refused n) = 0
+kindOf done = 0
+kindOf (counted c) = 0
+kindOf (filled n b) = 0
+kindOf (wrote k b) = kindNumber k
+
+unfoldable pub blockOf : Answer → ℕ
+blockOf (refused n) = n
+blockOf done = 0
+blockOf (counted c) = 0
+blockOf (filled n b) = 0
+blockOf (wrote k b) = b
+
+-- a call's answer in numbers
+unfoldable pub replyOf : Call → Answer → Reply
+replyOf (start m) a = number (numberOf a)
+replyOf (key o) a = present (numberOf a) (countOf a)
+replyOf (read o n x) a = filling (numberOf a) (bytesOf a)
+replyOf (write o n at new) a = number (numberOf a)
+replyOf (rescind o n) a = number (numberOf a)
+replyOf snapshot a = number (numberOf a)
+replyOf pageOut a = report (kindOf a) (blockOf a)
+replyOf advance a = report (kindOf a) (blockOf a)
+
+-- THE PROMISE of a linked call c that was lent l, replies r and leaves l′: the by-value call's, its answer in numbers
+pub record Linked (c : Call) (l : Lent) (r : Reply) (l′ : Lent) : Type 0 where
+  pub answer : Answer
+  pub in-numbers : r ≡ replyOf c answer
+  pub kept : Kept c l answer l′

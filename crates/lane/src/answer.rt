@@ -1,0 +1,26 @@
+// Answers in numbers, for C: an exported function hands back no enum.
+use record::store::Store;
+
+// Key's: refusal 0 and the count, or the number of the question that was answered "no", and count 0.
+#[repr(C)]
+pub struct Present {
+    pub refusal: u32,
+    pub count: u32,
+}
+
+// Page-out's and advance's: kind 1 to 5 for P, D, T, M and H with the block written, or kind 0 and the refusal's number.
+#[repr(C)]
+pub struct Report {
+    pub kind: u32,
+    pub number: usize,
+}
+
+pub struct Numbered {
+    pub answer: Present,
+    pub store: Store,
+}
+
+pub struct Reported {
+    pub answer: Report,
+    pub store: Store,
+}

@@ -1,0 +1,147 @@
+// The calls over a lent record: each calls the by-value core, and puts the record back. Key, page-out and advance answer with an enum, and with numbers for C.
+use super::answer::Present;
+use super::answer::Report;
+use super::number;
+use frames::answer::Advance;
+use pages::advance;
+use pages::answer::Count;
+use pages::format;
+use pages::key;
+use pages::page_out;
+use pages::read;
+use pages::rescind;
+use pages::snapshot;
+use pages::write;
+use record::store::Store;
+ghost use Rattle.frames.specs.Promise.{lent, numbered, reported};
+ghost use Rattle.pages.specs.Promise as call;
+ghost use Rattle.pages.specs.Promise.{answered, countedAs, Kept, FormatKept};
+ghost use Rattle.record.specs.Meaning.{zeroStore};
+ghost use Rattle.lane.specs.Linked.{number, filling, present, report, Linked};
+
+// Format takes no record.
+#[no_mangle]
+pub extern "C" fn lane_format(card: &mut [u8], area: usize, ranges: &[u32]) -> u32
+    ensures { λ r. ⌜ FormatKept area (now (ranges .entry)) (now (card .entry)) (answered (numbered r)) (now (card .exit)) ⌝ }
+{
+    format::format(card, area, ranges)
+}
+
+// Start does not read the record that it is lent.
+#[no_mangle]
+pub extern "C" fn lane_start(s: &mut Store, card: &[u8], memory: &[u8]) -> u32
+    ensures { λ r. ⌜ Linked (call.start (now (memory .entry))) (lent zeroStore (now (memory .entry)) (now (card .entry))) (number r) (lent (now (s .exit)) (now (memory .entry)) (now (card .entry))) ⌝ }
+{
+    let d = number::start(*s, card, memory);
+    *s = d.store;
+    d.answer
+}
+
+#[no_mangle]
+pub extern "C" fn lane_key(s: &mut Store, card: &[u8], memory: &[u8], oid: u32) -> Present
+    ensures { λ r. ⌜ Linked (call.key oid) (lent (now (s .entry)) (now (memory .entry)) (now (card .entry))) (present (r .refusal) (r .count)) (lent (now (s .exit)) (now (memory .entry)) (now (card .entry))) ⌝ }
+{
+    let d = number::key(*s, card, memory, oid);
+    *s = d.store;
+    d.answer
+}
+
+#[no_mangle]
+pub extern "C" fn lane_read(
+    s: &mut Store,
+    card: &[u8],
+    memory: &[u8],
+    oid: u32,
+    count: u32,
+    buffer: &mut [u8],
+) -> u32
+    ensures { λ r. ⌜ Linked (call.read oid count (now (buffer .entry))) (lent (now (s .entry)) (now (memory .entry)) (now (card .entry))) (filling r (now (buffer .exit)))
+        (lent (now (s .exit)) (now (memory .entry)) (now (card .entry))) ⌝ }
+{
+    let d = read::read(*s, card, memory, oid, count, buffer);
+    *s = d.store;
+    d.answer
+}
+
+#[no_mangle]
+pub extern "C" fn lane_write(
+    s: &mut Store,
+    card: &[u8],
+    memory: &mut [u8],
+    oid: u32,
+    count: u32,
+    at: usize,
+    new: &[u8],
+) -> u32
+    ensures { λ r. ⌜ Linked (call.write oid count at (now (new .entry))) (lent (now (s .entry)) (now (memory .entry)) (now (card .entry))) (number r) (lent (now (s .exit)) (now (memory .exit)) (now (card .entry))) ⌝ }
+{
+    let d = write::write(*s, card, memory, oid, count, at, new);
+    *s = d.store;
+    d.answer
+}
+
+#[no_mangle]
+pub extern "C" fn lane_rescind(
+    s: &mut Store,
+    card: &[u8],
+    memory: &mut [u8],
+    oid: u32,
+    count: u32,
+) -> u32
+    ensures { λ r. ⌜ Linked (call.rescind oid count) (lent (now (s .entry)) (now (memory .entry)) (now (card .entry))) (number r) (lent (now (s .exit)) (now (memory .exit)) (now (card .entry))) ⌝ }
+{
+    let d = rescind::rescind(*s, card, memory, oid, count);
+    *s = d.store;
+    d.answer
+}
+
+#[no_mangle]
+pub extern "C" fn lane_snapshot(s: &mut Store, card: &[u8], memory: &[u8]) -> u32
+    ensures { λ r. ⌜ Linked call.snapshot (lent (now (s .entry)) (now (memory .entry)) (now (card .entry))) (number r) (lent (now (s .exit)) (now (memory .entry)) (now (card .entry))) ⌝ }
+{
+    let d = snapshot::snapshot(*s, card, memory);
+    *s = d.store;
+    d.answer
+}
+
+#[no_mangle]
+pub extern "C" fn lane_page_out(s: &mut Store, card: &mut [u8], memory: &[u8]) -> Report
+    ensures { λ r. ⌜ Linked call.pageOut (lent (now (s .entry)) (now (memory .entry)) (now (card .entry))) (report (r .kind) (r .number)) (lent (now (s .exit)) (now (memory .entry)) (now (card .exit))) ⌝ }
+{
+    let d = number::page_out(*s, card, memory);
+    *s = d.store;
+    d.answer
+}
+
+#[no_mangle]
+pub extern "C" fn lane_advance(s: &mut Store, card: &mut [u8], memory: &[u8]) -> Report
+    ensures { λ r. ⌜ Linked call.advance (lent (now (s .entry)) (now (memory .entry)) (now (card .entry))) (report (r .kind) (r .number)) (lent (now (s .exit)) (now (memory .entry)) (now (card .exit))) ⌝ }
+{
+    let d = number::advance(*s, card, memory);
+    *s = d.store;
+    d.answer
+}
+
+pub fn key(s: &mut Store, card: &[u8], memory: &[u8], oid: u32) -> Count
+    ensures { λ r. ⌜ Kept (call.key oid) (lent (now (s .entry)) (now (memory .entry)) (now (card .entry))) (countedAs r) (lent (now (s .exit)) (now (memory .entry)) (now (card .entry))) ⌝ }
+{
+    let d = key::key(*s, card, memory, oid);
+    *s = d.store;
+    d.answer
+}
+
+pub fn page_out(s: &mut Store, card: &mut [u8], memory: &[u8]) -> Advance
+    ensures { λ r. ⌜ Kept call.pageOut (lent (now (s .entry)) (now (memory .entry)) (now (card .entry))) (answered (reported r)) (lent (now (s .exit)) (now (memory .entry)) (now (card .exit))) ⌝ }
+{
+    let d = page_out::page_out(*s, card, memory);
+    *s = d.store;
+    d.answer
+}
+
+pub fn advance(s: &mut Store, card: &mut [u8], memory: &[u8]) -> Advance
+    ensures { λ r. ⌜ Kept call.advance (lent (now (s .entry)) (now (memory .entry)) (now (card .entry))) (answered (reported r)) (lent (now (s .exit)) (now (memory .entry)) (now (card .exit))) ⌝ }
+{
+    let d = advance::advance(*s, card, memory);
+    *s = d.store;
+    d.answer
+}

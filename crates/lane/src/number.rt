@@ -1,0 +1,94 @@
+// By-value calls in the form that a wrapper calls: answers that are enums as numbers, and start with the record that it replaces.
+use super::answer::Numbered;
+use super::answer::Present;
+use super::answer::Report;
+use super::answer::Reported;
+use card::number;
+use frames::answer::Advance;
+use frames::answer::Done;
+use pages::advance;
+use pages::answer::Count;
+use pages::key;
+use pages::page_out;
+use pages::start;
+use record::store::Store;
+ghost use mathlib.Core.Path.{_≡_};
+ghost use Rattle.frames.specs.Promise.{lent, numbered};
+ghost use Rattle.pages.specs.Promise.{start, key, pageOut, advance, answered, Kept};
+ghost use Rattle.record.specs.Meaning.{zeroStore};
+ghost use Rattle.lane.specs.Linked.{present, report, presentOf, reportOf, Linked};
+
+fn present(c: Count) -> Present
+    ensures { λ r. ⌜ r ≡ presentOf c ⌝ }
+{
+    match c {
+        Count::Present(n) => Present {
+            refusal: 0,
+            count: n,
+        },
+        Count::Refused(n) => Present {
+            refusal: n,
+            count: 0,
+        },
+    }
+}
+
+fn report(a: Advance) -> Report
+    ensures { λ r. ⌜ r ≡ reportOf a ⌝ }
+{
+    match a {
+        Advance::P(b) => Report { kind: 1, number: b },
+        Advance::D(b) => Report { kind: 2, number: b },
+        Advance::T(b) => Report { kind: 3, number: b },
+        Advance::M(b) => Report { kind: 4, number: b },
+        Advance::H(b) => Report { kind: 5, number: b },
+        Advance::Refused(n) => Report {
+            kind: 0,
+            number: number::wide(n),
+        },
+    }
+}
+
+pub fn key(s: Store, card: &[u8], memory: &[u8], oid: u32) -> Numbered
+    ensures { λ r. ⌜ Linked (key oid) (lent s (now (memory .entry)) (now (card .entry))) (present (r .answer .refusal) (r .answer .count)) (lent (r .store) (now (memory .entry)) (now (card .entry))) ⌝ }
+{
+    let d = key::key(s, card, memory, oid);
+    let c = d.answer;
+    let t = d.store;
+    Numbered {
+        answer: present(c),
+        store: t,
+    }
+}
+
+pub fn page_out(s: Store, card: &mut [u8], memory: &[u8]) -> Reported
+    ensures { λ r. ⌜ Linked pageOut (lent s (now (memory .entry)) (now (card .entry))) (report (r .answer .kind) (r .answer .number)) (lent (r .store) (now (memory .entry)) (now (card .exit))) ⌝ }
+{
+    let d = page_out::page_out(s, card, memory);
+    let a = d.answer;
+    let t = d.store;
+    Reported {
+        answer: report(a),
+        store: t,
+    }
+}
+
+pub fn advance(s: Store, card: &mut [u8], memory: &[u8]) -> Reported
+    ensures { λ r. ⌜ Linked advance (lent s (now (memory .entry)) (now (card .entry))) (report (r .answer .kind) (r .answer .number)) (lent (r .store) (now (memory .entry)) (now (card .exit))) ⌝ }
+{
+    let d = advance::advance(s, card, memory);
+    let a = d.answer;
+    let t = d.store;
+    Reported {
+        answer: report(a),
+        store: t,
+    }
+}
+
+// The record that is handed in is not read.
+pub fn start(s: Store, card: &[u8], memory: &[u8]) -> Done
+    ensures { λ r. ⌜ Kept (start (now (memory .entry))) (lent zeroStore (now (memory .entry)) (now (card .entry))) (answered (numbered (r .answer)))
+        (lent (r .store) (now (memory .entry)) (now (card .entry))) ⌝ }
+{
+    start::start(card, memory)
+}

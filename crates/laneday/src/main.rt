@@ -1,0 +1,142 @@
+// A day of a lane over one record, which is lent to each call: two payments and a tag handed in, a snapshot, advances until none is due, a power-up, and what is found.
+// A line for each call: its name, and the number that it answers or what it tells.
+use frames::answer::Advance;
+use lane::call;
+use lane::lend;
+use libc::STDOUT_FILENO;
+use pages::answer::Count;
+use record::store;
+use record::store::Store;
+
+fn print_line(name: &[u8], n: u64) {
+    io::write_all(STDOUT_FILENO, name);
+    io::write_all(STDOUT_FILENO, b" ");
+    io::print_decimal(STDOUT_FILENO, n);
+    io::write_all(STDOUT_FILENO, b"\n");
+}
+
+fn wide(x: u8) -> u64 {
+    x as u64
+}
+
+fn start(s: Store, card: &[u8], memory: &[u8]) -> Store {
+    let d = lend::start(s, card, memory);
+    print_line(b"start", d.answer as u64);
+    d.store
+}
+
+fn pay(s: Store, card: &[u8], memory: &mut [u8], oid: u32, euros: u8) -> Store {
+    let d = lend::write(s, card, memory, oid, 0, 0, &[euros]);
+    print_line(b"write", d.answer as u64);
+    d.store
+}
+
+fn hand_in(s: Store, card: &[u8], memory: &mut [u8], oid: u32) -> Store {
+    let d = lend::rescind(s, card, memory, oid, 0);
+    print_line(b"rescind", d.answer as u64);
+    d.store
+}
+
+fn snapshot(s: Store, card: &[u8], memory: &[u8]) -> Store {
+    let d = lend::snapshot(s, card, memory);
+    print_line(b"snapshot", d.answer as u64);
+    d.store
+}
+
+// Prints what was written; false where the advance was refused.
+fn print_advance(a: Advance) -> bool {
+    match a {
+        Advance::P(n) => {
+            print_line(b"P", n as u64);
+            true
+        }
+        Advance::D(n) => {
+            print_line(b"D", n as u64);
+            true
+        }
+        Advance::T(n) => {
+            print_line(b"T", n as u64);
+            true
+        }
+        Advance::M(n) => {
+            print_line(b"M", n as u64);
+            true
+        }
+        Advance::H(n) => {
+            print_line(b"H", n as u64);
+            true
+        }
+        Advance::Refused(n) => {
+            print_line(b"advance", n as u64);
+            false
+        }
+    }
+}
+
+// A proved loop has to end, so it counts its turns down from more than any card of this size can need.
+fn advance_all(s: Store, card: &mut [u8], memory: &[u8]) -> Store {
+    let mut t = s;
+    let mut turns = 100u32;
+    while turns > 0 {
+        let r = lend::advance(t, card, memory);
+        t = r.store;
+        let a = r.answer;
+        if !print_advance(a) {
+            return t;
+        }
+        turns -= 1;
+    }
+    t
+}
+
+// Prints the count of a page, and the first byte that is read with that key.
+fn show(s: Store, card: &[u8], memory: &[u8], oid: u32) -> Store {
+    let k = lend::key(s, card, memory, oid);
+    let t = k.store;
+    let c = k.answer;
+    match c {
+        Count::Present(count) => {
+            print_line(b"count", count as u64);
+            let mut page = [0u8; 512];
+            let d = lend::read(t, card, memory, oid, count, &mut page);
+            print_line(b"byte", wide(page[0]));
+            d.store
+        }
+        Count::Refused(n) => {
+            print_line(b"key", n as u64);
+            t
+        }
+    }
+}
+
+fn passages(s: Store, card: &[u8], memory: &mut [u8]) -> Store {
+    let t = pay(s, card, memory, 100, 5);
+    let u = pay(t, card, memory, 101, 7);
+    hand_in(u, card, memory, 101)
+}
+
+fn morning(card: &mut [u8], memory: &mut [u8]) -> Store {
+    let s = start(store::zeros(), card, memory);
+    let t = passages(s, card, memory);
+    let u = snapshot(t, card, memory);
+    advance_all(u, card, memory)
+}
+
+// After a power-up the record and memory of the morning are gone.
+fn evening(card: &mut [u8], s: Store) {
+    let memory = [255u8; 2048];
+    let t = start(s, card, &memory);
+    let u = show(t, card, &memory, 100);
+    show(u, card, &memory, 101);
+}
+
+fn main() {
+    let mut card = [0u8; 10240];
+    let mut memory = [0u8; 2048];
+    print_line(
+        b"format",
+        call::lane_format(&mut card, 16, &[100, 2]) as u64,
+    );
+    let s = morning(&mut card, &mut memory);
+    evening(&mut card, s);
+}

@@ -1,0 +1,4 @@
+pub mod Args
+pub mod Lend
+pub mod Walk
+pub mod Wrap
