@@ -1,0 +1,149 @@
+//! A lane store as a program keeps it: its card is mapped, or each block that is written goes to a
+//! file and is synced.
+
+use crate::card::Synced;
+use crate::store::{Page, PageStore};
+use lane::BLOCK;
+use model::Kind;
+
+pub const AREA: usize = 512;
+pub const MEMORY: usize = 64 * BLOCK;
+const RUN: u32 = 102;
+
+/// Pages of the first range are written before anything is measured, those of the second never.
+pub const FIRST: u32 = 1_000;
+pub const WRITTEN: u32 = 40 * RUN;
+pub const FRESH: u32 = FIRST + WRITTEN;
+pub const UNWRITTEN: u32 = 32 * RUN;
+
+/// Refusals that a program goes by.
+const MEMORY_FULL: u32 = 14;
+const NOTHING_DUE: u32 = 20;
+
+/// Done, or the number of the question that was answered "no".
+pub type Answer = Result<(), u32>;
+
+/// Document 01's calls on a store that has its card and memory. Every key has count 0.
+pub trait Calls {
+    fn card(&mut self) -> &mut [u8];
+    fn start(&mut self) -> Answer;
+    fn key(&mut self, oid: u32) -> Result<u32, u32>;
+    fn read(&mut self, oid: u32, page: &mut Page) -> Answer;
+    fn write(&mut self, oid: u32, page: &Page) -> Answer;
+    fn rescind(&mut self, oid: u32) -> Answer;
+    fn snapshot(&mut self) -> Answer;
+    /// Done, it gives the block it wrote; an advance, its kind too.
+    fn page_out(&mut self) -> Result<usize, u32>;
+    fn advance(&mut self) -> Result<(Kind, usize), u32>;
+}
+
+/// The first page of the i-th run of pages never written.
+pub fn fresh_page(i: u32) -> u32 {
+    FRESH + i * RUN
+}
+
+pub fn card_length() -> usize {
+    let homes = WRITTEN + WRITTEN / RUN + UNWRITTEN + UNWRITTEN / RUN;
+    (1 + AREA + homes as usize) * BLOCK
+}
+
+/// A formatted store, and the file that its blocks go to if the card is not one itself.
+pub struct Controller {
+    pub calls: Box<dyn Calls>,
+    synced: Option<Synced>,
+}
+
+impl Controller {
+    pub fn new(calls: Box<dyn Calls>, synced: Option<Synced>, pages: &[(u32, Page)]) -> Controller {
+        let mut c = Controller { calls, synced };
+        let blocks = card_length() / BLOCK;
+        (0..blocks).for_each(|block| c.write_through(block));
+        // A batch that needs no page-out: room is left for the pots that it changes.
+        for batch in pages.chunks(MEMORY / BLOCK - 4) {
+            c.change(batch);
+            c.commit();
+            c.bring_home();
+        }
+        c
+    }
+
+    pub fn change(&mut self, pages: &[(u32, Page)]) {
+        for (oid, page) in pages {
+            self.write(*oid, page);
+        }
+    }
+
+    /// The next block write of a commit or of migration, if one is due.
+    pub fn advance(&mut self) -> Option<Kind> {
+        match self.calls.advance() {
+            Ok((kind, block)) => {
+                self.write_through(block);
+                Some(kind)
+            }
+            Err(NOTHING_DUE) => None,
+            Err(no) => panic!("advance is refused {no}"),
+        }
+    }
+
+    /// Syncs made so far: one for each block written, none where nothing is synced.
+    pub fn syncs(&self) -> u64 {
+        self.synced.as_ref().map_or(0, Synced::syncs)
+    }
+
+    fn write_through(&mut self, block: usize) {
+        if let Some(file) = &mut self.synced {
+            file.put(self.calls.card(), block);
+        }
+    }
+}
+
+impl PageStore for Controller {
+    fn read(&mut self, oid: u32, page: &mut Page) {
+        self.calls.read(oid, page).expect("read");
+    }
+
+    fn begin(&mut self) {}
+
+    /// Pages out where memory is full.
+    fn write(&mut self, oid: u32, page: &Page) {
+        while let Err(no) = self.calls.write(oid, page) {
+            assert_eq!(no, MEMORY_FULL, "write");
+            let block = self.calls.page_out().expect("page-out");
+            self.write_through(block);
+        }
+    }
+
+    fn commit(&mut self) {
+        self.calls.snapshot().expect("snapshot");
+        while self.advance().expect("a header to write") != Kind::H {}
+    }
+
+    fn abort(&mut self) {
+        self.start();
+        self.bring_home();
+    }
+
+    fn bring_home(&mut self) {
+        while self.advance().is_some() {}
+    }
+
+    /// The next header is written only once the last commit is home.
+    fn settle(&mut self) {
+        self.bring_home();
+    }
+
+    fn lane(&mut self) -> Option<&mut Controller> {
+        Some(self)
+    }
+
+    /// Nothing is open but the card's file, which start opens again.
+    fn stop(&mut self) {}
+
+    /// What is left of the card is what its file has.
+    fn start(&mut self) {
+        if let Some(file) = &mut self.synced {
+            file.read(self.calls.card());
+        }
+        self.calls.start().expect("start");
+    }
+}

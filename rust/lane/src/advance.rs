@@ -1,0 +1,55 @@
+use crate::raw::Report;
+use crate::Refusal;
+use std::fmt;
+
+/// The block write that an advance or a page-out made: its kind, with the block written.
+#[derive(Clone, Copy, Debug, Eq, Hash, PartialEq)]
+pub enum Advance {
+    /// The oldest waiting frame, to the area.
+    P(usize),
+    /// A block of its directory.
+    D(usize),
+    /// Its trailer.
+    T(usize),
+    /// A frame of the committed generation, copied to its home block.
+    M(usize),
+    /// The header, block 0: the snapshot is committed.
+    H(usize),
+}
+
+impl Advance {
+    /// The block written.
+    pub fn block(self) -> usize {
+        self.parts().1
+    }
+
+    fn parts(self) -> (char, usize) {
+        match self {
+            Advance::P(block) => ('P', block),
+            Advance::D(block) => ('D', block),
+            Advance::T(block) => ('T', block),
+            Advance::M(block) => ('M', block),
+            Advance::H(block) => ('H', block),
+        }
+    }
+
+    pub(crate) fn of(report: Report) -> Result<Advance, Refusal> {
+        let number = report.number;
+        match report.kind {
+            0 => Err(Refusal::of(u32::try_from(number).unwrap_or(u32::MAX))),
+            1 => Ok(Advance::P(number)),
+            2 => Ok(Advance::D(number)),
+            3 => Ok(Advance::T(number)),
+            4 => Ok(Advance::M(number)),
+            5 => Ok(Advance::H(number)),
+            kind => panic!("liblane.a reports kind {kind}, which this crate does not know"),
+        }
+    }
+}
+
+impl fmt::Display for Advance {
+    fn fmt(&self, f: &mut fmt::Formatter<'_>) -> fmt::Result {
+        let (kind, block) = self.parts();
+        write!(f, "{kind} {block}")
+    }
+}

@@ -1,0 +1,79 @@
+//! The lane page store, a proved library, with an interface that is safe to call.
+//!
+//! A controller formats a card once. After every power-up it starts, and then lends the card and
+//! its memory to each call of the [`Store`]. A snapshot marks all pages and counts; it is kept,
+//! whatever cut comes, once [`Store::advance`] has written the header.
+//!
+//! ```
+//! use lane::{format, Advance, Range, Refusal, Store, BLOCK};
+//!
+//! # fn main() -> Result<(), Refusal> {
+//! // A header, 8 blocks of checkpoint area, and one range: an allocation pot and a page.
+//! let mut card = [0; 11 * BLOCK];
+//! let mut memory = [0; 4 * BLOCK];
+//! format(&mut card, 8, &[Range { first: 100, pages: 1 }])?;
+//!
+//! let mut store = Store::start(&card, &memory)?;
+//! let key = store.key(&card, &memory, 100)?;
+//! store.write(&card, &mut memory, key, 0, b"paid")?;
+//! store.snapshot(&card, &memory)?;
+//! while store.advance(&mut card, &memory)? != Advance::H(0) {}
+//!
+//! // The power fails, and only the card is left: memory holds any bytes.
+//! let memory = [255; 4 * BLOCK];
+//! let mut store = Store::start(&card, &memory)?;
+//! let mut page = [0; BLOCK];
+//! store.read(&card, &memory, key, &mut page)?;
+//! assert_eq!(&page[..4], b"paid");
+//! # Ok(())
+//! # }
+//! ```
+//!
+//! A refused call changes nothing, and says by a [`Refusal`] which of document 01's questions was
+//! answered "no".
+//!
+//! Where the card is a copy of a device's blocks, the program writes the block that an advance or a
+//! page-out changed, and no other, and waits until it is durable before the next of these two calls;
+//! `include/lane.h` says what else program and device owe.
+
+#![deny(missing_docs)]
+#![deny(clippy::undocumented_unsafe_blocks)]
+
+mod advance;
+mod raw;
+mod refusal;
+mod store;
+
+pub use advance::Advance;
+pub use refusal::Refusal;
+pub use store::Store;
+
+/// Bytes of a block, a page and a memory frame.
+pub const BLOCK: usize = 512;
+
+/// What names a page in a call: its object number, and its count when the key was made.
+#[derive(Clone, Copy, Debug, Eq, Hash, PartialEq)]
+pub struct Key {
+    /// The object number.
+    pub oid: u32,
+    /// The allocation count, which a rescind raises.
+    pub count: u32,
+}
+
+/// A home range: pages with object numbers that follow each other.
+#[derive(Clone, Copy, Debug, Eq, Hash, PartialEq)]
+pub struct Range {
+    /// The first object number.
+    pub first: u32,
+    /// How many pages.
+    pub pages: u32,
+}
+
+/// Makes a card of any bytes an empty one, with `area` blocks of checkpoint area, 8 to 512.
+///
+/// The card must have 1 + `area` blocks and, for each of the 1 to 8 ranges, a block for each page
+/// and for each 102 of them or part of it.
+pub fn format(card: &mut [u8], area: usize, ranges: &[Range]) -> Result<(), Refusal> {
+    let numbers: Vec<u32> = ranges.iter().flat_map(|r| [r.first, r.pages]).collect();
+    Refusal::done(raw::format(card, area, &numbers))
+}

@@ -1,0 +1,84 @@
+use crate::raw;
+use crate::{Advance, Key, Refusal};
+use std::fmt;
+
+/// The store of a card that was started: the one record that is lent to each call.
+///
+/// Lend every call the same card and the same memory, as the last call left them. The store checks
+/// their lengths, not whose they are.
+pub struct Store {
+    record: Box<raw::Record>,
+}
+
+impl Store {
+    /// Bytes of the record.
+    pub const RECORD: usize = std::mem::size_of::<raw::Record>();
+
+    /// Reads what a formatted card holds. Memory is 4 to 64 frames, with any bytes.
+    ///
+    /// Pages and counts are those of the last snapshot whose header write reached the card.
+    pub fn start(card: &[u8], memory: &[u8]) -> Result<Store, Refusal> {
+        let mut record = raw::zeros();
+        Refusal::done(raw::start(&mut record, card, memory))?;
+        Ok(Store { record })
+    }
+
+    /// Gives the key to a page: its OID with the present count.
+    pub fn key(&mut self, card: &[u8], memory: &[u8], oid: u32) -> Result<Key, Refusal> {
+        let present = raw::key(&mut self.record, card, memory, oid);
+        Refusal::done(present.refusal)?;
+        let count = present.count;
+        Ok(Key { oid, count })
+    }
+
+    /// Fills a buffer with a page. A buffer of another length than a page is refused 11.
+    pub fn read(
+        &mut self,
+        card: &[u8],
+        memory: &[u8],
+        key: Key,
+        buffer: &mut [u8],
+    ) -> Result<(), Refusal> {
+        Refusal::done(raw::read(&mut self.record, card, memory, key, buffer))
+    }
+
+    /// Puts bytes into a page at an offset. No bytes change nothing.
+    pub fn write(
+        &mut self,
+        card: &[u8],
+        memory: &mut [u8],
+        key: Key,
+        at: usize,
+        bytes: &[u8],
+    ) -> Result<(), Refusal> {
+        Refusal::done(raw::write(&mut self.record, card, memory, key, at, bytes))
+    }
+
+    /// Makes a page zeros and adds 1 to its count, so that every key to it is old.
+    pub fn rescind(&mut self, card: &[u8], memory: &mut [u8], key: Key) -> Result<(), Refusal> {
+        Refusal::done(raw::rescind(&mut self.record, card, memory, key))
+    }
+
+    /// Marks all pages and counts as they are, to be kept once [`advance`](Store::advance) has
+    /// written the header.
+    pub fn snapshot(&mut self, card: &[u8], memory: &[u8]) -> Result<(), Refusal> {
+        Refusal::done(raw::snapshot(&mut self.record, card, memory))
+    }
+
+    /// Writes the oldest waiting frame to the area, which frees its memory frame, and reports it as
+    /// [`Advance::P`].
+    pub fn page_out(&mut self, card: &mut [u8], memory: &[u8]) -> Result<Advance, Refusal> {
+        Advance::of(raw::page_out(&mut self.record, card, memory))
+    }
+
+    /// Makes the next block write of a commit or of migration, and reports it.
+    pub fn advance(&mut self, card: &mut [u8], memory: &[u8]) -> Result<Advance, Refusal> {
+        Advance::of(raw::advance(&mut self.record, card, memory))
+    }
+}
+
+impl fmt::Debug for Store {
+    fn fmt(&self, f: &mut fmt::Formatter<'_>) -> fmt::Result {
+        f.debug_struct("Store").finish_non_exhaustive()
+    }
+}

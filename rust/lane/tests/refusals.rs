@@ -1,0 +1,167 @@
+//! Refusals through the safe interface: the number, and that nothing changed.
+
+use lane::{format, Advance, Key, Range, Refusal, Store};
+
+const RANGE: Range = Range {
+    first: 100,
+    pages: 2,
+};
+
+/// A started card of 8 area blocks and two pages, with memory of 4 frames.
+struct Lane {
+    card: Vec<u8>,
+    memory: Vec<u8>,
+    store: Store,
+}
+
+impl Lane {
+    fn new() -> Lane {
+        let mut card = vec![0; 12 * 512];
+        let memory = vec![0; 4 * 512];
+        format(&mut card, 8, &[RANGE]).unwrap();
+        let store = Store::start(&card, &memory).unwrap();
+        Lane {
+            card,
+            memory,
+            store,
+        }
+    }
+
+    fn key(&mut self, oid: u32) -> Key {
+        self.store.key(&self.card, &self.memory, oid).unwrap()
+    }
+
+    fn read(&mut self, key: Key, buffer: &mut [u8]) -> Result<(), Refusal> {
+        self.store.read(&self.card, &self.memory, key, buffer)
+    }
+
+    fn write(&mut self, key: Key, at: usize, bytes: &[u8]) -> Result<(), Refusal> {
+        self.store
+            .write(&self.card, &mut self.memory, key, at, bytes)
+    }
+
+    fn snapshot(&mut self) -> Result<(), Refusal> {
+        self.store.snapshot(&self.card, &self.memory)
+    }
+
+    fn advance(&mut self) -> Result<Advance, Refusal> {
+        self.store.advance(&mut self.card, &self.memory)
+    }
+}
+
+#[test]
+fn format_asks_for_a_card_that_its_ranges_fill() {
+    let mut card = vec![9; 13 * 512];
+    let before = card.clone();
+    assert_eq!(format(&mut card[..700], 8, &[RANGE]), Err(Refusal::Card));
+    assert_eq!(format(&mut [], 8, &[RANGE]), Err(Refusal::Card));
+    assert_eq!(format(&mut card, 8, &[RANGE]), Err(Refusal::Geometry));
+    assert_eq!(format(&mut card, 8, &[]), Err(Refusal::Geometry));
+    assert_eq!(format(&mut card, 8, &[RANGE; 9]), Err(Refusal::Geometry));
+    assert!(card == before);
+}
+
+#[test]
+fn start_asks_memory_before_card() {
+    let lane = Lane::new();
+    let start = |card: &[u8], memory: &[u8]| Store::start(card, memory).unwrap_err();
+    assert_eq!(start(&[], &[]), Refusal::Memory);
+    assert_eq!(start(&[], &lane.memory), Refusal::Card);
+    assert_eq!(start(&[0; 11 * 512], &lane.memory), Refusal::Layout);
+    assert_eq!(start(&lane.card, &lane.memory[..1536]), Refusal::Memory);
+}
+
+#[test]
+fn card_and_memory_are_as_long_as_at_start() {
+    let mut lane = Lane::new();
+    let short = &lane.card[512..];
+    assert_eq!(lane.store.key(short, &lane.memory, 100), Err(Refusal::Card));
+    let long = vec![0; 5 * 512];
+    assert_eq!(lane.store.key(&lane.card, &long, 100), Err(Refusal::Memory));
+}
+
+#[test]
+fn a_key_is_an_oid_of_a_range_with_the_present_count() {
+    let mut lane = Lane::new();
+    let outside = lane.store.key(&lane.card, &lane.memory, 102);
+    assert_eq!(outside, Err(Refusal::Oid));
+
+    let old = lane.key(101);
+    lane.write(old, 0, b"paid").unwrap();
+    let rescinded = lane.store.rescind(&lane.card, &mut lane.memory, old);
+    assert_eq!(rescinded, Ok(()));
+    assert_eq!(lane.key(101), Key { oid: 101, count: 1 });
+    let mut page = [9; 512];
+    assert_eq!(lane.read(old, &mut page), Err(Refusal::Count));
+    assert_eq!(page, [9; 512]);
+    let new = lane.key(101);
+    assert_eq!(lane.read(new, &mut page), Ok(()));
+    assert_eq!(page, [0; 512]);
+}
+
+#[test]
+fn bytes_stay_within_a_page() {
+    let mut lane = Lane::new();
+    let key = lane.key(100);
+    assert_eq!(lane.read(key, &mut []), Err(Refusal::Length));
+    assert_eq!(lane.read(key, &mut [0; 513]), Err(Refusal::Length));
+    assert_eq!(lane.write(key, 511, b"12"), Err(Refusal::Length));
+    assert_eq!(lane.write(key, usize::MAX, b"1"), Err(Refusal::Length));
+    assert_eq!(lane.write(key, 512, b""), Ok(()));
+    assert_eq!(lane.snapshot(), Err(Refusal::Unchanged));
+    assert_eq!(lane.write(key, 511, b"1"), Ok(()));
+    assert_eq!(lane.snapshot(), Ok(()));
+    assert_eq!(lane.snapshot(), Err(Refusal::Pending));
+}
+
+#[test]
+fn a_generation_stays_within_half_the_area() {
+    let mut lane = Lane::new();
+    let (first, second) = (lane.key(100), lane.key(101));
+    lane.write(first, 0, b"1").unwrap();
+    let memory = lane.memory.clone();
+    assert_eq!(lane.write(second, 0, b"2"), Err(Refusal::Half));
+    assert!(lane.memory == memory);
+    let mut page = [9; 512];
+    lane.read(second, &mut page).unwrap();
+    assert_eq!(page, [0; 512]);
+}
+
+#[test]
+fn every_write_is_reported_until_none_is_due() {
+    let mut lane = Lane::new();
+    let key = lane.key(100);
+    assert_eq!(lane.advance(), Err(Refusal::NothingDue));
+    let none = lane.store.page_out(&mut lane.card, &lane.memory);
+    assert_eq!(none, Err(Refusal::NoneWaits));
+    lane.write(key, 0, &[7]).unwrap();
+    lane.snapshot().unwrap();
+    let reports: Vec<String> = std::iter::from_fn(|| lane.advance().ok())
+        .map(|report| report.to_string())
+        .collect();
+    assert_eq!(reports, ["P 1", "P 2", "D 3", "T 4", "H 0", "M 9", "M 10"]);
+    assert_eq!(lane.advance(), Err(Refusal::NothingDue));
+}
+
+#[test]
+fn page_out_writes_one_block_of_the_area() {
+    let mut lane = Lane::new();
+    let key = lane.key(100);
+    lane.write(key, 0, &[7]).unwrap();
+    let before = lane.card.clone();
+    let paged = lane.store.page_out(&mut lane.card, &lane.memory);
+    assert_eq!(paged, Ok(Advance::P(1)));
+    let changed: Vec<usize> = (0..12)
+        .filter(|b| lane.card[b * 512..][..512] != before[b * 512..][..512])
+        .collect();
+    assert_eq!(changed, [1]);
+}
+
+#[test]
+fn a_refusal_says_its_number_and_meaning() {
+    assert_eq!(Refusal::Oid.number(), 9);
+    assert_eq!(
+        Refusal::Oid.to_string(),
+        "refused 9: the OID is in no range"
+    );
+}

@@ -1,0 +1,70 @@
+//! The book: what each OID should hold, told from calls' arguments and answers
+//! alone. It knows nothing of blocks, frames or the model.
+
+use std::collections::BTreeMap;
+
+/// What a table gives for an OID.
+#[derive(Clone, Debug, PartialEq, Eq)]
+pub struct Page {
+    pub count: u32,
+    pub bytes: [u8; 512],
+}
+
+const UNTOUCHED: Page = Page {
+    count: 0,
+    bytes: [0; 512],
+};
+
+/// OIDs that are not in the map are all zeros.
+type Table = BTreeMap<u32, Page>;
+
+/// After a format: present and kept all zeros, marked empty.
+#[derive(Clone, Debug, Default)]
+pub struct Book {
+    present: Table,
+    marked: Option<Table>,
+    kept: Table,
+}
+
+impl Book {
+    /// A write done.
+    pub fn write(&mut self, oid: u32, at: usize, bytes: &[u8]) {
+        let page = self.present.entry(oid).or_insert(UNTOUCHED);
+        page.bytes[at..at + bytes.len()].copy_from_slice(bytes);
+    }
+
+    /// A rescind done.
+    pub fn rescind(&mut self, oid: u32) {
+        let page = self.present.entry(oid).or_insert(UNTOUCHED);
+        page.count = page.count.wrapping_add(1);
+        page.bytes = UNTOUCHED.bytes;
+    }
+
+    /// A snapshot done.
+    pub fn snapshot(&mut self) {
+        self.marked = Some(self.present.clone());
+    }
+
+    /// A header write has reached the card.
+    pub fn header(&mut self) {
+        if let Some(marked) = self.marked.take() {
+            self.kept = marked;
+        }
+    }
+
+    /// A start done.
+    pub fn start(&mut self) {
+        self.present = self.kept.clone();
+        self.marked = None;
+    }
+
+    /// What the book gives for an OID now; after a start it is what was kept.
+    pub fn present(&self, oid: u32) -> &Page {
+        self.present.get(&oid).unwrap_or(&UNTOUCHED)
+    }
+
+    /// For a card that was doctored between its format and a start.
+    pub fn doctor(&mut self, oid: u32, page: Page) {
+        self.kept.insert(oid, page);
+    }
+}

@@ -1,0 +1,117 @@
+//! Document 01's lane tables and whole run, shown of the model.
+
+use model::blocks::{get, number};
+use model::generation::size;
+use model::geometry::BLOCK;
+use model::{Geometry, Kind, Lent, Model, Range};
+
+/// A 8, one range of the given pages from OID 100 on, memory of 4 frames.
+fn small(pages: u32) -> (Model, Lent) {
+    let range = Range { first: 100, pages };
+    let card = (1 + 8 + range.blocks()) * BLOCK;
+    let lent = Lent {
+        card,
+        memory: 4 * BLOCK,
+    };
+    let mut model = Model::new(vec![0xA5; card]);
+    assert_eq!(model.format(card, 8, &[100, pages]), Ok(()));
+    assert_eq!(model.start(lent), Ok(()));
+    (model, lent)
+}
+
+fn advances(model: &mut Model, lent: Lent) -> Vec<(Kind, usize)> {
+    std::iter::from_fn(|| model.advance(lent).ok()).collect()
+}
+
+#[test]
+fn places_of_a_to_c() {
+    let geometry = Geometry::new(1 + 8 + 105, 8, &[0, 103]).expect("the ranges fill the card");
+    let into_range = |oid| {
+        let place = geometry.place(oid).expect("the OID is in the range");
+        (place.page - 9, place.pot - 9)
+    };
+    assert_eq!(into_range(0), (1, 0));
+    assert_eq!(into_range(101), (102, 0));
+    assert_eq!(into_range(102), (104, 103));
+}
+
+#[test]
+fn sizes_of_d_to_j() {
+    let blocks = |pages| Range { first: 0, pages }.blocks();
+    assert_eq!(blocks(102), 103);
+    assert_eq!(blocks(103), 105);
+    let nine = Geometry::new(12, 9, &[0, 1]).expect("the range fills the card");
+    assert_eq!(nine.half(), 4);
+    let eight = Geometry::new(11, 8, &[0, 1]).expect("the range fills the card");
+    assert_eq!(eight.ring(7, 3), 2);
+    assert_eq!(size(2, 2), 4);
+    assert_eq!(size(65, 65), 68);
+    assert_eq!(size(251, 251), 256);
+}
+
+#[test]
+fn second_fresh_page_of_k_is_refused() {
+    let (mut model, lent) = small(2);
+    assert_eq!(model.write(lent, 100, 0, 0, &[1]), Ok(()));
+    assert_eq!(model.write(lent, 101, 0, 0, &[1]), Err(12));
+}
+
+#[test]
+fn offsets_of_l() {
+    let (mut model, lent) = small(1);
+    assert_eq!(model.write(lent, 100, 0, 511, &[1]), Ok(()));
+    assert_eq!(model.write(lent, 100, 0, 511, &[1, 2]), Err(11));
+    assert_eq!(model.write(lent, 100, 0, 512, &[]), Ok(()));
+    assert_eq!(model.write(lent, 100, 0, usize::MAX, &[1]), Err(11));
+}
+
+#[test]
+fn whole_run() {
+    let (mut model, lent) = small(1);
+    assert_eq!(model.write(lent, 100, 0, 0, &[7]), Ok(()));
+    assert_eq!(model.snapshot(lent), Ok(()));
+    let mut restarted_after_t = None;
+    let mut run = Vec::new();
+    while let Ok(advance) = model.advance(lent) {
+        run.push(advance);
+        if advance == (Kind::T, 4) {
+            restarted_after_t = Some(Model::new(model.card.clone()));
+        }
+    }
+    use Kind::{D, H, M, P, T};
+    let expected = [(P, 1), (P, 2), (D, 3), (T, 4), (H, 0), (M, 9), (M, 10)];
+    assert_eq!(run, expected);
+    let directory = get(&model.card, 3);
+    let entries: Vec<u32> = (0..4).map(|i| number(&directory, 4 * i)).collect();
+    assert_eq!(entries, [9, 2, 10, 1]);
+
+    let mut early = restarted_after_t.expect("the run has a trailer");
+    assert_eq!(early.start(lent), Ok(()));
+    assert_eq!(early.read(lent, 100, 0, BLOCK), Ok([0; BLOCK]));
+    assert_eq!(model.start(lent), Ok(()));
+    assert_eq!(model.read(lent, 100, 0, BLOCK).map(|page| page[0]), Ok(7));
+}
+
+#[test]
+fn migration_left_over_comes_between_trailer_and_header() {
+    let (mut model, lent) = small(1);
+    assert_eq!(model.write(lent, 100, 0, 0, &[7]), Ok(()));
+    assert_eq!(model.snapshot(lent), Ok(()));
+    for _ in 0..6 {
+        assert!(model.advance(lent).is_ok());
+    }
+    assert_eq!(model.rescind(lent, 100, 0), Ok(()));
+    assert_eq!(model.snapshot(lent), Ok(()));
+    use Kind::{D, H, M, P, T};
+    let expected = [(P, 5), (D, 6), (T, 7), (M, 10), (H, 0), (M, 9)];
+    assert_eq!(advances(&mut model, lent), expected);
+}
+
+#[test]
+fn record_of_zeros_answers_1() {
+    let (mut model, lent) = small(1);
+    let short = Lent { memory: 0, ..lent };
+    assert_eq!(model.start(short), Err(1));
+    assert_eq!(model.key(lent, 100), Err(1));
+    assert_eq!(model.advance(short), Err(1));
+}

@@ -1,0 +1,151 @@
+//! Records and cards that no call made.
+
+pub mod broken;
+pub mod cards;
+mod form;
+pub mod records;
+
+use crate::call::Call;
+use crate::cards::Size;
+use crate::library::Library;
+use crate::list::List;
+use crate::mix;
+use crate::rng::Rng;
+use crate::run::{run_steps, Failure};
+use crate::tally::Tally;
+use crate::trial::Trial;
+use model::geometry::BLOCK;
+use model::{Kind, Model, Store};
+
+/// Which states of the store are doctored.
+#[derive(Clone, Copy)]
+pub struct State {
+    pub size: Size,
+    committed: bool,
+    due: Option<Kind>,
+    pending: bool,
+}
+
+/// Each thing that advance can have due, while a current frame waits: with
+/// nothing committed yet, with a committed generation, and with a pending one
+/// too. Then a committed directory of several blocks, without more.
+pub const STATES: [State; 13] = [
+    state(None, false),
+    state(Some(Kind::M), false),
+    state(Some(Kind::P), true),
+    state(Some(Kind::D), true),
+    state(Some(Kind::T), true),
+    state(Some(Kind::M), true),
+    state(Some(Kind::H), true),
+    state(None, false).fresh(),
+    state(Some(Kind::P), true).fresh(),
+    state(Some(Kind::D), true).fresh(),
+    state(Some(Kind::T), true).fresh(),
+    state(Some(Kind::H), true).fresh(),
+    State {
+        size: Size::Wide,
+        ..state(Some(Kind::M), false)
+    },
+];
+
+const fn state(due: Option<Kind>, pending: bool) -> State {
+    State {
+        size: Size::Small,
+        committed: true,
+        due,
+        pending,
+    }
+}
+
+impl State {
+    /// At commit 0.
+    const fn fresh(self) -> State {
+        State {
+            committed: false,
+            ..self
+        }
+    }
+
+    fn is(&self, store: &Store) -> bool {
+        let entries = store.committed.as_ref().map(|c| c.entries.len());
+        let special = match self.size {
+            Size::Wide => entries > Some(64) && store.geometry.blocks < 500,
+            _ => !store.current.waiting.is_empty(),
+        };
+        special
+            && entries.is_some() == self.committed
+            && store.due() == self.due
+            && store.pending.is_some() == self.pending
+    }
+}
+
+/// How a part of a run failed.
+#[derive(Debug)]
+pub enum Failed {
+    /// A list fails, with nothing doctored but what is in it.
+    List(Box<List>, Failure),
+    /// What a doctored record or card has shown.
+    Doctored(String),
+    /// The trial itself has panicked.
+    Panic(String),
+}
+
+impl From<String> for Failed {
+    fn from(what: String) -> Failed {
+        Failed::Doctored(what)
+    }
+}
+
+/// Runs random lists until one comes into that state, and says what then goes
+/// on with the trial.
+pub fn in_state<L: Library>(
+    library: &mut L,
+    tally: &mut Tally,
+    state: State,
+    rng: &mut Rng,
+    go_on: impl FnOnce(&mut Trial<'_, L, Model>) -> Result<(), String>,
+) -> Result<(), Failed> {
+    loop {
+        let whole = mix::list_of_size(Rng::new(rng.next()), state.size);
+        let begun = List {
+            steps: Vec::new(),
+            ..whole.clone()
+        };
+        let model = Model::new(Vec::new());
+        let mut trial = match run_steps(library, model, &begun, tally) {
+            Ok(trial) => trial,
+            Err(failure) => return Err(Failed::List(Box::new(begun), failure)),
+        };
+        for (i, step) in whole.steps.iter().enumerate() {
+            if let Err(what) = trial.step(step) {
+                let failure = Failure { step: i + 1, what };
+                return Err(Failed::List(Box::new(whole), failure));
+            }
+            let store = trial.reference.store.as_ref();
+            if store.is_some_and(|store| state.is(store)) {
+                return Ok(go_on(&mut trial)?);
+            }
+        }
+    }
+}
+
+/// The calls that are lent a record, with arguments that are right.
+pub fn calls_on(oid: u32, count: u32) -> Vec<Call> {
+    let length = BLOCK;
+    let write = Call::Write {
+        oid,
+        count,
+        at: 3,
+        length: 5,
+        fill: 1,
+    };
+    vec![
+        Call::Key { oid },
+        Call::Read { oid, count, length },
+        write,
+        Call::Rescind { oid, count },
+        Call::Snapshot,
+        Call::PageOut,
+        Call::Advance,
+    ]
+}

@@ -1,0 +1,373 @@
+//! Records that do not hold together, by the sentences of question 2.
+
+use super::form::{
+    element_at, is_known, put_element, put_size, size_at, Directory, AREA, COMMIT, COMMITTED,
+    COMMITTED_BLOCKS, CURRENT, FIRST, GEOMETRY_BLOCKS, HEAD, MIGRATED, PAGES, PENDING, RANGES,
+    RANGE_NUMBERS, TAIL, WIDTH,
+};
+use crate::library::Record;
+use crate::rng::Rng;
+use model::generation::{directory_blocks, size, Changes, Committed, Pending};
+use model::Store;
+
+/// What a run must have broken, in one state or another.
+pub const SENTENCES: [&str; 28] = [
+    "A",
+    "the number of ranges",
+    "the number of blocks",
+    "n of the first range",
+    "the second first OID",
+    "commit, of a committed generation",
+    "commit, of none",
+    "commit, with one pending",
+    "e of the committed",
+    "p of the committed",
+    "the first block",
+    "a committed block",
+    "committed frames that do not rise",
+    "the number migrated",
+    "a frame that is not home",
+    "a frame named twice",
+    "p below e",
+    "a place not taken",
+    "a waiting place without entry",
+    "a waiting place named twice",
+    "p of a pending without entry",
+    "more down than taken",
+    "a size above H",
+    "sizes above A",
+    "more waiting than memory has",
+    "head",
+    "tail, while a pending frame waits",
+    "tail, above directory and trailer",
+];
+
+/// A record with one sentence broken.
+pub struct Broken {
+    pub sentence: &'static str,
+    /// What was done to it.
+    pub what: String,
+    pub record: Record,
+}
+
+struct Breaker<'r> {
+    good: &'r Record,
+    store: &'r Store,
+    made: Doctored,
+}
+
+/// Records made from a good one.
+#[derive(Default)]
+pub struct Doctored {
+    /// These must be refused 2.
+    pub broken: Vec<Broken>,
+    /// These keep a limit by one and hold together.
+    pub held: Vec<Record>,
+}
+
+/// Records made from a good one of that store.
+pub fn doctored(good: &Record, store: &Store, rng: &mut Rng) -> Result<Doctored, String> {
+    if !is_known(good, store) {
+        return Err("the record has not the form of lane.h".into());
+    }
+    let mut breaker = Breaker {
+        good,
+        store,
+        made: Doctored::default(),
+    };
+    breaker.geometry();
+    match &store.committed {
+        Some(committed) => breaker.committed(committed, rng),
+        None => breaker.no_committed(),
+    }
+    match &store.pending {
+        Some(pending) => breaker.pending(pending, rng),
+        None => breaker.no_pending(),
+    }
+    breaker.directory(CURRENT, rng);
+    breaker.places(CURRENT, &store.current);
+    breaker.memory();
+    Ok(breaker.made)
+}
+
+impl Breaker<'_> {
+    fn push(&mut self, sentence: &'static str, what: String, change: impl FnOnce(&mut Record)) {
+        let mut record = *self.good;
+        change(&mut record);
+        self.made.broken.push(Broken {
+            sentence,
+            what,
+            record,
+        });
+    }
+
+    /// One number made another.
+    fn set(&mut self, sentence: &'static str, at: usize, to: usize) {
+        let what = format!("made {to}");
+        self.push(sentence, what, |record| put_size(record, at, to));
+    }
+
+    /// One element of an array made another.
+    fn set_element(&mut self, sentence: &'static str, at: usize, to: usize) {
+        let what = format!("element made {to}");
+        self.push(sentence, what, |record| put_element(record, at, to));
+    }
+
+    /// Geometry passes 5.
+    fn geometry(&mut self) {
+        let geometry = &self.store.geometry;
+        let area = geometry.area;
+        for other in [0, 7, 513, area - 1, area + 1] {
+            self.set("A", AREA, other);
+        }
+        for other in [0, geometry.ranges.len() - 1, 9] {
+            self.set("the number of ranges", RANGES, other);
+        }
+        for other in [geometry.blocks - 1, geometry.blocks + 1] {
+            self.set("the number of blocks", GEOMETRY_BLOCKS, other);
+        }
+        let n = geometry.ranges[0].pages as usize;
+        for other in [0, n + 1] {
+            self.set("n of the first range", RANGE_NUMBERS + 4, other);
+        }
+        if geometry.ranges.len() > 1 {
+            let first = geometry.ranges[0].first as usize;
+            self.set("the second first OID", RANGE_NUMBERS + 8, first);
+        }
+    }
+
+    /// Commit is 0 if there is no committed generation, and then the first
+    /// one starts at block 1.
+    fn no_committed(&mut self) {
+        for other in [1, u32::MAX as usize - 1] {
+            self.set("commit, of none", COMMIT, other);
+        }
+        self.set("p of the committed", PAGES, 1);
+        self.set("e of the committed", COMMITTED.count, 1);
+        self.set("the number migrated", MIGRATED, 1);
+        for other in [0, 2] {
+            self.set("the first block", FIRST, other);
+        }
+    }
+
+    /// The committed directory rises, its blocks lie in its own stretch, and
+    /// what is copied is within its count.
+    fn committed(&mut self, committed: &Committed, rng: &mut Rng) {
+        let (p, e) = (committed.p, committed.entries.len());
+        let geometry = &self.store.geometry;
+        self.set("commit, of a committed generation", COMMIT, 0);
+        self.directory(COMMITTED, rng);
+        self.swap_entries(e, rng);
+        for other in [0, p + 1] {
+            self.set("e of the committed", COMMITTED.count, other);
+        }
+        self.set("the number migrated", MIGRATED, e + 1);
+        for other in [0, e - 1, geometry.half()] {
+            self.set("p of the committed", PAGES, other);
+        }
+        for other in [0, geometry.area + 1] {
+            self.set("the first block", FIRST, other);
+        }
+        let after = geometry.ring(committed.first, committed.size());
+        for other in [0, after, geometry.area + 1] {
+            let at = COMMITTED_BLOCKS + WIDTH * rng.below(e);
+            self.set_element("a committed block", at, other);
+        }
+    }
+
+    /// Two entries that follow each other, in each other's place.
+    fn swap_entries(&mut self, e: usize, rng: &mut Rng) {
+        if e < 2 {
+            return;
+        }
+        let i = rng.below(e - 1);
+        let what = format!("entries {i} and {} swapped", i + 1);
+        let good = self.good;
+        self.push("committed frames that do not rise", what, |record| {
+            for array in [COMMITTED.frames, COMMITTED_BLOCKS] {
+                let [one, next] = [array + WIDTH * i, array + WIDTH * (i + 1)];
+                put_element(record, one, element_at(good, next));
+                put_element(record, next, element_at(good, one));
+            }
+        });
+    }
+
+    /// Of directory and trailer no more is down than they have, and nothing
+    /// while a frame waits. Commit can still rise.
+    fn pending(&mut self, pending: &Pending, rng: &mut Rng) {
+        let changes = &pending.changes;
+        self.set("commit, with one pending", COMMIT, u32::MAX as usize);
+        self.directory(PENDING, rng);
+        self.places(PENDING, changes);
+        self.both_at_half(changes);
+        let whole = directory_blocks(changes.e()) + 1;
+        if changes.waiting.is_empty() {
+            self.set("tail, above directory and trailer", TAIL, whole + 1);
+        } else {
+            for other in [1, whole] {
+                self.set("tail, while a pending frame waits", TAIL, other);
+            }
+        }
+        let what = "entries dropped, all places down".to_string();
+        self.push("p of a pending without entry", what, |record| {
+            put_size(record, PENDING.count, 0);
+            put_size(record, PENDING.down(), changes.p());
+            put_size(record, TAIL, 0);
+        });
+    }
+
+    fn no_pending(&mut self) {
+        self.set("tail, above directory and trailer", TAIL, 1);
+        self.set("more down than taken", PENDING.down(), 1);
+        let what = "a place taken and down".to_string();
+        self.push("p of a pending without entry", what, |record| {
+            put_size(record, PENDING.taken(), 1);
+            put_size(record, PENDING.down(), 1);
+        });
+    }
+
+    /// Each directory names home blocks, none twice.
+    fn directory(&mut self, directory: Directory, rng: &mut Rng) {
+        let geometry = &self.store.geometry;
+        let count = size_at(self.good, directory.count);
+        let at = |i: usize| directory.frames + WIDTH * i;
+        for i in 0..count {
+            let not_home = [0, geometry.area, geometry.blocks];
+            self.set_element("a frame that is not home", at(i), rng.pick(&not_home));
+            for _ in 0..count.min(4) {
+                let other = rng.below(count);
+                let twice = element_at(self.good, at(other));
+                if other != i {
+                    self.set_element("a frame named twice", at(i), twice);
+                }
+            }
+        }
+    }
+
+    /// e and what is down are at most p; places are taken ones; the stretches
+    /// are each at most H and together at most A.
+    fn places(&mut self, directory: Directory, changes: &Changes) {
+        let (p, e) = (changes.p(), changes.e());
+        self.set("more down than taken", directory.down(), p + 1);
+        if e == 0 {
+            return;
+        }
+        self.set("p below e", directory.taken(), e - 1);
+        for i in 0..e {
+            let at = directory.places() + WIDTH * i;
+            self.set_element("a place not taken", at, p);
+        }
+        let to_half = self.store.geometry.half() - changes.size();
+        let taken = self.store.other_sizes() + self.store.current.size();
+        let to_area = self.store.geometry.area - taken;
+        if to_half < to_area {
+            self.push_up("a size above H", directory, to_half + 1);
+        }
+        if to_area < to_half {
+            self.push_up("sizes above A", directory, to_area + 1);
+        }
+        let held = longer(self.good, directory, to_half.min(to_area));
+        self.made.held.push(held);
+        if to_half.min(to_area) > 0 {
+            self.waiting_places(directory, changes);
+        }
+    }
+
+    fn push_up(&mut self, sentence: &'static str, directory: Directory, by: usize) {
+        let longer = longer(self.good, directory, by);
+        let what = format!("by {by} more places");
+        self.push(sentence, what, |record| *record = longer);
+    }
+
+    /// Each waiting frame stands once in the directory. There is room for one
+    /// more place, so that place 0 can be one whose block is down.
+    fn waiting_places(&mut self, directory: Directory, changes: &Changes) {
+        let (down, e) = (changes.written.len(), changes.e());
+        let longer = longer(self.good, directory, 1);
+        let at = |i: usize| directory.places() + WIDTH * i;
+        for i in 0..e {
+            let place = element_at(self.good, at(i));
+            if place < down {
+                continue;
+            }
+            let what = format!("entry {i} at place 0");
+            self.push("a waiting place without entry", what, |record| {
+                *record = longer;
+                put_element(record, at(i), 0);
+            });
+            if e > 1 {
+                let other = at((i + 1) % e);
+                self.set_element("a waiting place named twice", other, place);
+            }
+        }
+    }
+
+    /// Two generations of H blocks and a committed one have no room.
+    fn both_at_half(&mut self, pending: &Changes) {
+        let half = self.store.geometry.half();
+        let current = &self.store.current;
+        if self.store.committed.is_none() || current.e() == 0 {
+            return;
+        }
+        let one = longer(self.good, PENDING, half - pending.size());
+        let both = longer(&one, CURRENT, half - current.size());
+        let what = "pending and current at H".to_string();
+        self.push("sizes above A", what, |record| *record = both);
+    }
+
+    /// All waiting frames have a memory frame.
+    fn memory(&mut self) {
+        let frames = self.store.memory;
+        for other in [frames, 64, u32::MAX as usize] {
+            self.set("head", HEAD, other);
+        }
+        let pending = self.store.pending.as_ref();
+        let free = frames - pending.map_or(0, |pending| pending.changes.waiting.len());
+        if let Some(record) = self.all_waiting(free + 1) {
+            let what = format!("{} of the current wait", free + 1);
+            self.push("more waiting than memory has", what, |other| {
+                *other = record
+            });
+            self.made.held.extend(self.all_waiting(free));
+        }
+    }
+
+    /// A current generation of so many frames that all wait, if there are so
+    /// many home blocks and so much area.
+    fn all_waiting(&self, count: usize) -> Option<Record> {
+        let geometry = &self.store.geometry;
+        let size = size(count, count);
+        let home = geometry.blocks - 1 - geometry.area;
+        let room = size <= geometry.half() && self.store.other_sizes() + size <= geometry.area;
+        if count > home || !room {
+            return None;
+        }
+        let mut record = *self.good;
+        put_size(&mut record, CURRENT.count, count);
+        put_size(&mut record, CURRENT.taken(), count);
+        put_size(&mut record, CURRENT.down(), 0);
+        for i in 0..count {
+            let frame = geometry.area + 1 + i;
+            put_element(&mut record, CURRENT.frames + WIDTH * i, frame);
+            put_element(&mut record, CURRENT.places() + WIDTH * i, i);
+        }
+        Some(record)
+    }
+}
+
+/// A generation made longer, as if so many blocks more were down.
+fn longer(good: &Record, directory: Directory, by: usize) -> Record {
+    let mut record = *good;
+    let down = size_at(good, directory.down());
+    for at in [directory.taken(), directory.down()] {
+        put_size(&mut record, at, size_at(good, at) + by);
+    }
+    for i in 0..size_at(good, directory.count) {
+        let at = directory.places() + WIDTH * i;
+        let place = element_at(good, at);
+        if place >= down {
+            put_element(&mut record, at, place + by);
+        }
+    }
+    record
+}

@@ -1,0 +1,196 @@
+//! The library under trial: the interface as the trials use it, and the proved
+//! library behind it. The declarations are its own, since the crate `lane` lends
+//! neither a record of any bytes with a margin after it nor ranges of an odd
+//! number of words.
+
+use crate::call::{Answer, Call};
+use model::Kind;
+use std::ops::Range;
+
+/// `lane_store`, of which only the size is known here, and a margin after it
+/// that no call may touch.
+#[derive(Clone, Copy, PartialEq)]
+#[repr(C, align(8))]
+pub struct Record(pub [u8; RECORD + MARGIN]);
+
+pub const RECORD: usize = 3272;
+const MARGIN: usize = 64;
+/// The bytes between two fields of `lane_store` that belong to none.
+pub const PADDING: Range<usize> = 108..112;
+
+impl Record {
+    pub const ZEROS: Record = Record([0; RECORD + MARGIN]);
+
+    pub fn margin(&self) -> &[u8] {
+        &self.0[RECORD..]
+    }
+}
+
+/// What is lent to a call.
+pub struct Loan<'a> {
+    pub record: &'a mut Record,
+    pub card: &'a mut [u8],
+    pub memory: &'a mut [u8],
+}
+
+pub trait Library {
+    /// Makes one call. The buffer is a read's, or holds the bytes of a write.
+    fn make(&mut self, call: &Call, loan: Loan<'_>, buffer: &mut [u8]) -> Answer;
+}
+
+#[repr(C)]
+struct Present {
+    refusal: u32,
+    count: u32,
+}
+
+#[repr(C)]
+struct Report {
+    kind: u32,
+    number: usize,
+}
+
+extern "C" {
+    fn lane_format(
+        card: *mut u8,
+        card_len: usize,
+        area: usize,
+        ranges: *const u32,
+        ranges_len: usize,
+    ) -> u32;
+    fn lane_start(
+        s: *mut Record,
+        card: *const u8,
+        card_len: usize,
+        memory: *const u8,
+        memory_len: usize,
+    ) -> u32;
+    fn lane_key(
+        s: *mut Record,
+        card: *const u8,
+        card_len: usize,
+        memory: *const u8,
+        memory_len: usize,
+        oid: u32,
+    ) -> Present;
+    fn lane_read(
+        s: *mut Record,
+        card: *const u8,
+        card_len: usize,
+        memory: *const u8,
+        memory_len: usize,
+        oid: u32,
+        count: u32,
+        buffer: *mut u8,
+        buffer_len: usize,
+    ) -> u32;
+    fn lane_write(
+        s: *mut Record,
+        card: *const u8,
+        card_len: usize,
+        memory: *mut u8,
+        memory_len: usize,
+        oid: u32,
+        count: u32,
+        at: usize,
+        bytes: *const u8,
+        bytes_len: usize,
+    ) -> u32;
+    fn lane_rescind(
+        s: *mut Record,
+        card: *const u8,
+        card_len: usize,
+        memory: *mut u8,
+        memory_len: usize,
+        oid: u32,
+        count: u32,
+    ) -> u32;
+    fn lane_snapshot(
+        s: *mut Record,
+        card: *const u8,
+        card_len: usize,
+        memory: *const u8,
+        memory_len: usize,
+    ) -> u32;
+    fn lane_page_out(
+        s: *mut Record,
+        card: *mut u8,
+        card_len: usize,
+        memory: *const u8,
+        memory_len: usize,
+    ) -> Report;
+    fn lane_advance(
+        s: *mut Record,
+        card: *mut u8,
+        card_len: usize,
+        memory: *const u8,
+        memory_len: usize,
+    ) -> Report;
+}
+
+/// The proved library.
+pub struct Linked;
+
+impl Library for Linked {
+    fn make(&mut self, call: &Call, loan: Loan<'_>, buffer: &mut [u8]) -> Answer {
+        let s: *mut Record = loan.record;
+        let (card, n) = (loan.card.as_mut_ptr(), loan.card.len());
+        let (memory, m) = (loan.memory.as_mut_ptr(), loan.memory.len());
+        let (bytes, l) = (buffer.as_mut_ptr(), buffer.len());
+        // SAFETY: each pointer is of a slice with that length, no two overlap,
+        // and all live until the call is over.
+        unsafe {
+            match *call {
+                Call::Format { area, ref ranges } => {
+                    numbered(lane_format(card, n, area, ranges.as_ptr(), ranges.len()))
+                }
+                Call::Start => numbered(lane_start(s, card, n, memory, m)),
+                Call::Key { oid } => counted(lane_key(s, card, n, memory, m, oid)),
+                Call::Read { oid, count, .. } => {
+                    numbered(lane_read(s, card, n, memory, m, oid, count, bytes, l))
+                }
+                Call::Write { oid, count, at, .. } => {
+                    numbered(lane_write(s, card, n, memory, m, oid, count, at, bytes, l))
+                }
+                Call::Rescind { oid, count } => {
+                    numbered(lane_rescind(s, card, n, memory, m, oid, count))
+                }
+                Call::Snapshot => numbered(lane_snapshot(s, card, n, memory, m)),
+                Call::PageOut => reported(lane_page_out(s, card, n, memory, m)),
+                Call::Advance => reported(lane_advance(s, card, n, memory, m)),
+            }
+        }
+    }
+}
+
+fn numbered(number: u32) -> Answer {
+    match number {
+        0 => Answer::Done,
+        refusal => Answer::Refused(refusal),
+    }
+}
+
+/// A refused key has count 0.
+fn counted(present: Present) -> Answer {
+    match (present.refusal, present.count) {
+        (0, count) => Answer::Count(count),
+        (refusal, 0) => Answer::Refused(refusal),
+        _ => Answer::Strange,
+    }
+}
+
+fn reported(report: Report) -> Answer {
+    let kind = match report.kind {
+        0 => {
+            let refusal = u32::try_from(report.number);
+            return refusal.map_or(Answer::Strange, Answer::Refused);
+        }
+        1 => Kind::P,
+        2 => Kind::D,
+        3 => Kind::T,
+        4 => Kind::M,
+        5 => Kind::H,
+        _ => return Answer::Strange,
+    };
+    Answer::Wrote(kind, report.number)
+}

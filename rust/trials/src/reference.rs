@@ -1,0 +1,60 @@
+//! What a call should answer and write: the model, asked like the library.
+
+use crate::call::{Answer, Call};
+use model::blocks::Block;
+use model::{Kind, Lent, Model, Refusal};
+
+pub struct Reply {
+    pub answer: Answer,
+    /// What a read that is done fills the buffer with.
+    pub page: Option<Block>,
+    /// The block that page-out or advance wrote.
+    pub wrote: Option<usize>,
+}
+
+pub trait Reference {
+    /// Makes one call; `bytes` is what a write is lent.
+    fn make(&mut self, call: &Call, lent: Lent, bytes: &[u8]) -> Reply;
+
+    fn model(&mut self) -> &mut Model;
+}
+
+impl Reference for Model {
+    fn make(&mut self, call: &Call, lent: Lent, bytes: &[u8]) -> Reply {
+        let mut page = None;
+        let mut wrote = None;
+        let answer = match *call {
+            Call::Format { area, ref ranges } => done(self.format(lent.card, area, ranges)),
+            Call::Start => done(self.start(lent)),
+            Call::Key { oid } => self.key(lent, oid).map(Answer::Count),
+            Call::Read { oid, count, length } => self.read(lent, oid, count, length).map(|bytes| {
+                page = Some(bytes);
+                Answer::Done
+            }),
+            Call::Write { oid, count, at, .. } => done(self.write(lent, oid, count, at, bytes)),
+            Call::Rescind { oid, count } => done(self.rescind(lent, oid, count)),
+            Call::Snapshot => done(self.snapshot(lent)),
+            Call::PageOut => self.page_out(lent).map(|block| {
+                wrote = Some(block);
+                Answer::Wrote(Kind::P, block)
+            }),
+            Call::Advance => self.advance(lent).map(|(kind, block)| {
+                wrote = Some(block);
+                Answer::Wrote(kind, block)
+            }),
+        };
+        Reply {
+            answer: answer.unwrap_or_else(Answer::Refused),
+            page,
+            wrote,
+        }
+    }
+
+    fn model(&mut self) -> &mut Model {
+        self
+    }
+}
+
+fn done(result: Result<(), Refusal>) -> Result<Answer, Refusal> {
+    result.map(|()| Answer::Done)
+}

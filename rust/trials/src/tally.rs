@@ -1,0 +1,216 @@
+//! How often each number was answered by each call.
+
+use crate::call::{Answer, Call, NAMES};
+use crate::doctored::broken::SENTENCES;
+use model::Kind;
+use std::collections::BTreeSet;
+
+/// The numbers each call can answer, in the order of `Call::row`.
+const POSSIBLE: [&[u32]; 9] = [
+    &[0, 3, 5],
+    &[0, 1, 3, 4, 5, 6, 7, 8],
+    &[0, 1, 2, 3, 9],
+    &[0, 1, 2, 3, 9, 10, 11],
+    &[0, 1, 2, 3, 9, 10, 11, 12, 13, 14],
+    &[0, 1, 2, 3, 9, 10, 12, 13, 14, 15],
+    &[0, 1, 2, 3, 16, 17, 18],
+    &[0, 1, 2, 3, 19],
+    &[0, 1, 2, 3, 20],
+];
+
+const START: usize = 1;
+
+/// Lists must come to a directory of four blocks.
+const DEEP: usize = 192;
+
+/// The block writes a cut can be in: advance's kinds, in `Kind`'s order, and
+/// page-out's.
+const WRITES: [&str; 6] = ["P", "D", "T", "M", "H", "page-out"];
+const HEADER: usize = Kind::H as usize;
+const PAGE_OUT: usize = 5;
+
+/// What a cut has left of the block, in `Remains`' order.
+const REMAINS: [&str; 3] = ["old", "new", "torn"];
+
+#[derive(Clone, Copy, PartialEq)]
+pub enum Remains {
+    Old,
+    New,
+    Torn,
+}
+
+/// A header is left old or new, never torn.
+fn can_remain(write: usize, remains: usize) -> bool {
+    write != HEADER || remains != Remains::Torn as usize
+}
+
+/// Numbers that only doctored records and cards bring about.
+fn needs_doctoring(row: usize, number: u32) -> bool {
+    number == 2 || (row == START && (6..=8).contains(&number))
+}
+
+#[derive(Clone, Default)]
+pub struct Tally {
+    answers: [[u64; 21]; 9],
+    kinds: [u64; 5],
+    /// The most entries of a directory.
+    pub fullest: usize,
+    pub lists: u64,
+    pub cuts: u64,
+    /// Cuts in block writes, by write and by what was left; where old and new
+    /// are the same bytes, only torn ones.
+    cuts_in: [[u64; 3]; 6],
+    /// Blocks of the largest card that was started.
+    largest: usize,
+    /// The lengths of memory that were lent to a start, in frames.
+    frames: BTreeSet<usize>,
+    /// Keys and reads that look whether a page is what the book says.
+    pub looks: u64,
+    pub doctored_records: u64,
+    pub doctored_cards: u64,
+    /// The sentences of question 2 that a record has broken.
+    pub broken: BTreeSet<&'static str>,
+}
+
+impl Tally {
+    /// Counts an answer; an answer this call cannot give is an error.
+    pub fn count(&mut self, call: &Call, answer: &Answer) -> Result<(), String> {
+        let row = call.row();
+        let number = answer.number().filter(|n| POSSIBLE[row].contains(n));
+        let Some(number) = number else {
+            return Err(format!("{} answers {answer}", call.name()));
+        };
+        self.answers[row][number as usize] += 1;
+        if let (Call::Advance, Answer::Wrote(kind, _)) = (call, answer) {
+            self.kinds[*kind as usize] += 1;
+        }
+        Ok(())
+    }
+
+    /// Counts a cut in a call that wrote a block.
+    pub fn count_cut(&mut self, call: &Call, answer: &Answer, remains: Remains) {
+        let write = match (call, answer) {
+            (Call::Advance, Answer::Wrote(kind, _)) => *kind as usize,
+            _ => PAGE_OUT,
+        };
+        self.cuts_in[write][remains as usize] += 1;
+    }
+
+    pub fn cuts_in_writes(&self) -> u64 {
+        self.cuts_in.iter().flatten().sum()
+    }
+
+    /// A start that was done.
+    pub fn count_start(&mut self, blocks: usize, frames: usize) {
+        self.largest = self.largest.max(blocks);
+        self.frames.insert(frames);
+    }
+
+    pub fn calls(&self) -> u64 {
+        self.answers.iter().flatten().sum()
+    }
+
+    pub fn add(&mut self, other: &Tally) {
+        let answers = self.answers.iter_mut().flatten();
+        for (sum, more) in answers.zip(other.answers.iter().flatten()) {
+            *sum += more;
+        }
+        for (sum, more) in self.kinds.iter_mut().zip(other.kinds) {
+            *sum += more;
+        }
+        let cuts_in = self.cuts_in.iter_mut().flatten();
+        for (sum, more) in cuts_in.zip(other.cuts_in.iter().flatten()) {
+            *sum += more;
+        }
+        self.largest = self.largest.max(other.largest);
+        self.frames.extend(&other.frames);
+        self.fullest = self.fullest.max(other.fullest);
+        self.lists += other.lists;
+        self.cuts += other.cuts;
+        self.looks += other.looks;
+        self.doctored_records += other.doctored_records;
+        self.doctored_cards += other.doctored_cards;
+        self.broken.extend(&other.broken);
+    }
+
+    /// Numbers that lists can bring about and did not.
+    pub fn missing_from_lists(&self) -> Vec<String> {
+        let mut missing = self.missing(|row, number| !needs_doctoring(row, number));
+        for kind in [Kind::P, Kind::D, Kind::T, Kind::M, Kind::H] {
+            if self.kinds[kind as usize] == 0 {
+                missing.push(format!("advance {kind:?}"));
+            }
+        }
+        if self.fullest <= DEEP {
+            missing.push(format!("a directory of more than {DEEP} entries"));
+        }
+        if self.largest < 65_536 {
+            missing.push("a card of 65,536 blocks".into());
+        }
+        for frames in [4, 64].iter().filter(|n| !self.frames.contains(n)) {
+            missing.push(format!("a memory of {frames} frames"));
+        }
+        missing.extend(self.missing_cuts());
+        missing
+    }
+
+    fn missing_cuts(&self) -> Vec<String> {
+        let mut missing = Vec::new();
+        for (write, name) in WRITES.iter().enumerate() {
+            for (remains, left) in REMAINS.iter().enumerate() {
+                if can_remain(write, remains) && self.cuts_in[write][remains] == 0 {
+                    missing.push(format!("a cut in {name} that leaves {left}"));
+                }
+            }
+        }
+        missing
+    }
+
+    /// One line: what cuts have left of each write's block.
+    pub fn cuts_table(&self) -> String {
+        let cells = WRITES.iter().zip(self.cuts_in);
+        let cells = cells.map(|(name, left)| {
+            let left = REMAINS.iter().zip(left);
+            let left: Vec<String> = left.map(|(name, n)| format!("{name} {n}")).collect();
+            format!("{name} {}", left.join(" "))
+        });
+        let cells: Vec<String> = cells.collect();
+        format!("  cut in {}\n", cells.join(", "))
+    }
+
+    /// Numbers that only doctoring brings about and that did not come, and
+    /// sentences that no record has broken.
+    pub fn missing_from_doctored(&self) -> Vec<String> {
+        let mut missing = self.missing(needs_doctoring);
+        let whole = SENTENCES.iter().filter(|name| !self.broken.contains(*name));
+        missing.extend(whole.map(|name| format!("broken: {name}")));
+        missing
+    }
+
+    fn missing(&self, wanted: impl Fn(usize, u32) -> bool) -> Vec<String> {
+        let mut missing = Vec::new();
+        for (row, numbers) in POSSIBLE.iter().enumerate() {
+            for number in numbers.iter().filter(|number| wanted(row, **number)) {
+                if self.answers[row][*number as usize] == 0 {
+                    missing.push(format!("{} {number}", NAMES[row]));
+                }
+            }
+        }
+        missing
+    }
+
+    /// One line a call: each number it can answer, and how often it did.
+    pub fn table(&self) -> String {
+        let mut lines = String::new();
+        for (row, numbers) in POSSIBLE.iter().enumerate() {
+            lines += &format!("  {:<9}", NAMES[row]);
+            for number in *numbers {
+                lines += &format!(" {number}:{}", self.answers[row][*number as usize]);
+            }
+            lines.push('\n');
+        }
+        let [p, d, t, m, h] = self.kinds;
+        lines += &format!("  advance wrote P {p}, D {d}, T {t}, M {m}, H {h}");
+        lines + &format!("; fullest directory {} entries\n", self.fullest)
+    }
+}

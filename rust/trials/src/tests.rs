@@ -1,0 +1,197 @@
+//! Shows that the trials can fail: libraries with one fault each are caught,
+//! and the list that catches them is made short.
+
+mod careless;
+mod faulty;
+
+use crate::call::Call;
+use crate::cards::Size;
+use crate::doctored::{cards, records, Failed, STATES};
+use crate::list::{Lending, List, Step};
+use crate::mix;
+use crate::reference::Reference;
+use crate::rng::Rng;
+use crate::run::run;
+use crate::shrink::shrink;
+use crate::tally::Tally;
+use careless::{Careless, Slip};
+use faulty::{Fault, Faulty};
+use model::Model;
+
+const LISTS: u64 = 200;
+/// Steps of a list that is short enough to be read: three commits, and more.
+const SHORT: usize = 30;
+
+fn lists() -> impl Iterator<Item = List> {
+    (0..LISTS).map(|i| mix::list_of_size(Rng::part(7, i), Size::Small))
+}
+
+fn fails<R: Reference>(fault: Fault, reference: R, list: &List) -> bool {
+    let mut library = Faulty::new(fault);
+    run(&mut library, reference, list, &mut Tally::default()).is_err()
+}
+
+/// Finds a list that fails, makes it short and says its steps.
+fn caught(mut fails: impl FnMut(&List) -> bool) -> Vec<Step> {
+    let list = lists().find(|list| fails(list)).expect("no list fails");
+    let short = shrink(list, &mut fails);
+    println!("{short}");
+    short.steps
+}
+
+/// Caught by the model's answers and card.
+fn caught_by_model(fault: Fault) {
+    let steps = caught(|list| fails(fault, Model::new(Vec::new()), list));
+    assert!(steps.len() <= SHORT);
+}
+
+/// Caught with the fault in the reference too, where only the book is left.
+fn caught_by_book(fault: Fault) {
+    let steps = caught(|list| fails(fault, Faulty::new(fault), list));
+    assert!(steps.len() <= SHORT);
+}
+
+#[test]
+fn library_without_fault_passes() {
+    let model = || Model::new(Vec::new());
+    assert!(lists().all(|list| !fails(Fault::None, model(), &list)));
+}
+
+#[test]
+fn pot_updated_at_home() {
+    caught_by_model(Fault::PotAtHome);
+    caught_by_book(Fault::PotAtHome);
+}
+
+#[test]
+fn write_on_waiting_old_bytes() {
+    caught_by_model(Fault::OldBytes);
+    caught_by_book(Fault::OldBytes);
+}
+
+#[test]
+fn write_that_alters_the_snapshot() {
+    caught_by_model(Fault::SnapshotAltered);
+    caught_by_book(Fault::SnapshotAltered);
+}
+
+#[test]
+fn area_released_once_migration_has_started() {
+    caught_by_model(Fault::ReleasedEarly);
+    caught_by_book(Fault::ReleasedEarly);
+}
+
+#[test]
+fn start_that_shows_commit_0() {
+    caught_by_model(Fault::CommitZero);
+    caught_by_book(Fault::CommitZero);
+}
+
+#[test]
+fn commit_with_no_trailer_behind_it() {
+    caught_by_model(Fault::NoTrailer);
+    caught_by_book(Fault::NoTrailer);
+}
+
+#[test]
+fn advance_that_does_everything() {
+    caught_by_model(Fault::AllAtOnce);
+}
+
+#[test]
+fn refusal_12_too_early() {
+    caught_by_model(Fault::TwelveTooEarly);
+}
+
+#[test]
+fn writes_that_change_nothing() {
+    caught_by_model(Fault::WritesNothing);
+    caught_by_book(Fault::WritesNothing);
+}
+
+/// Doctoring must see a slip, and no list may.
+fn seen(result: Result<(), Failed>) -> String {
+    match result {
+        Err(Failed::Doctored(what)) => what,
+        Err(Failed::List(list, failure)) => panic!("{failure} of {list}"),
+        Err(Failed::Panic(what)) => panic!("{what}"),
+        Ok(()) => panic!("the slip is not seen"),
+    }
+}
+
+#[test]
+fn doctored_records_catch_slips() {
+    for slip in [
+        Slip::Record,
+        Slip::Memory,
+        Slip::Card,
+        Slip::Buffer,
+        Slip::Number(21),
+        Slip::Number(3),
+        Slip::One,
+    ] {
+        let on = |_: &Call| true;
+        let mut library = Careless { on, at: 2, slip };
+        let tally = &mut Tally::default();
+        let result = records::doctor(&mut library, tally, STATES[2], Rng::new(5));
+        println!("{}", seen(result));
+    }
+}
+
+#[test]
+fn doctored_cards_catch_slips() {
+    for at in [6, 7, 8] {
+        for slip in [Slip::Record, Slip::Number(5)] {
+            let on = |_: &Call| true;
+            let mut library = Careless { on, at, slip };
+            let tally = &mut Tally::default();
+            let result = cards::doctor(&mut library, tally, STATES[1], Rng::new(5));
+            println!("{}", seen(result));
+        }
+    }
+}
+
+/// Key, read and a write of length 0, done, leave the record.
+#[test]
+fn lists_catch_a_record_that_changes() {
+    let on: [fn(&Call) -> bool; 3] = [
+        |call| matches!(call, Call::Key { .. }),
+        |call| matches!(call, Call::Read { .. }),
+        |call| matches!(call, Call::Write { length: 0, .. }),
+    ];
+    for on in on {
+        let (at, slip) = (0, Slip::Record);
+        let mut library = Careless { on, at, slip };
+        let mut run = |list| {
+            let model = Model::new(Vec::new());
+            run(&mut library, model, &list, &mut Tally::default()).err()
+        };
+        let failure = lists().find_map(&mut run).expect("no list fails");
+        assert!(failure.what.contains("record byte 77"), "{failure}");
+    }
+}
+
+/// A run that has seen nothing says what it should have seen.
+#[test]
+fn what_was_never_seen_is_told() {
+    let missing = Tally::default().missing_from_lists();
+    let told = |what: &str| missing.iter().any(|one| one == what);
+    assert!(told("a cut in H that leaves old"));
+    assert!(told("a cut in page-out that leaves torn"));
+    assert!(!told("a cut in H that leaves torn"));
+    assert!(told("a card of 65,536 blocks"));
+    assert!(told("a memory of 64 frames"));
+    let missing = Tally::default().missing_from_doctored();
+    assert!(missing.contains(&"broken: head".to_string()));
+}
+
+/// A list is worth little if its calls are all lent the wrong thing.
+#[test]
+fn most_calls_are_lent_what_is_right() {
+    let steps: Vec<Step> = lists().flat_map(|list| list.steps).collect();
+    let right = |step: &&Step| {
+        let whole = Lending::default();
+        matches!(step, Step::Call { lending, .. } if *lending == whole)
+    };
+    assert!(steps.iter().filter(right).count() * 10 > steps.len() * 8);
+}

@@ -1,0 +1,222 @@
+//! The model as a library, with one fault of document 01's list.
+
+use crate::call::{Answer, Call};
+use crate::library::{Library, Loan, RECORD};
+use crate::reference::{Reference, Reply};
+use model::blocks::{put, Block};
+use model::geometry::Place;
+use model::{Kind, Lent, Model};
+use std::collections::VecDeque;
+
+#[derive(Clone, Copy, Debug, PartialEq)]
+pub enum Fault {
+    None,
+    /// A pot that a write changes is written at home too.
+    PotAtHome,
+    /// After a rescind, a write lands on the waiting old bytes.
+    OldBytes,
+    /// A write after a snapshot alters the frame still waiting for it.
+    SnapshotAltered,
+    /// The committed pages' blocks are free once migration has started.
+    ReleasedEarly,
+    /// Start always shows commit 0.
+    CommitZero,
+    /// The header follows the directory.
+    NoTrailer,
+    /// The first advance does everything, the later ones only report.
+    AllAtOnce,
+    /// A generation of H blocks is refused.
+    TwelveTooEarly,
+    WritesNothing,
+}
+
+pub struct Faulty {
+    model: Model,
+    fault: Fault,
+    /// What advance has done and not yet reported.
+    unreported: VecDeque<(Kind, usize)>,
+}
+
+impl Faulty {
+    pub fn new(fault: Fault) -> Faulty {
+        Faulty {
+            model: Model::new(Vec::new()),
+            fault,
+            unreported: VecDeque::new(),
+        }
+    }
+
+    fn place(&self, call: &Call) -> Option<Place> {
+        let store = self.model.store.as_ref()?;
+        store.geometry.place(call.oid()?)
+    }
+
+    /// The waiting bytes of a page whose flag is set.
+    fn old_bytes(&self, call: &Call) -> Option<Block> {
+        let place = self.place(call)?;
+        let store = self.model.store.as_ref()?;
+        let pot = store.newest(&self.model.card, place.pot);
+        let rescinded = pot[place.at + 4] & 1 == 1;
+        let waiting = store.current.waiting_bytes(place.page).copied();
+        waiting.filter(|_| rescinded)
+    }
+
+    fn put_pot_home(&mut self, call: &Call) -> Option<()> {
+        let pot = self.place(call)?.pot;
+        let store = self.model.store.as_ref()?;
+        put(&mut self.model.card, pot, store.current.waiting_bytes(pot)?);
+        Some(())
+    }
+
+    fn put_on(&mut self, call: &Call, old: Block, new: &[u8]) -> Option<()> {
+        let page = self.place(call)?.page;
+        let mut bytes = old;
+        if let Call::Write { at, .. } = *call {
+            bytes[at..at + new.len()].copy_from_slice(new);
+        }
+        self.model.store.as_mut()?.current.change(page, bytes);
+        Some(())
+    }
+
+    fn alter_snapshot(&mut self, call: &Call) -> Option<()> {
+        let place = self.place(call)?;
+        let store = self.model.store.as_mut()?;
+        let pending = store.pending.as_mut()?;
+        for waiting in &mut pending.changes.waiting {
+            if waiting.frame == place.page || waiting.frame == place.pot {
+                waiting.bytes = *store.current.waiting_bytes(waiting.frame)?;
+            }
+        }
+        Some(())
+    }
+
+    /// Makes a change with the committed pages not counted.
+    fn change_released(&mut self, call: &Call, lent: Lent, bytes: &[u8]) -> Reply {
+        let committed = |model: &mut Model, p: usize| {
+            let store = model.store.as_mut()?;
+            let committed = store.committed.as_mut()?;
+            (committed.migrated > 0).then(|| std::mem::replace(&mut committed.p, p))
+        };
+        let p = committed(&mut self.model, 0);
+        let reply = self.model.make(call, lent, bytes);
+        if let Some(p) = p {
+            committed(&mut self.model, p);
+        }
+        reply
+    }
+
+    fn start_at_commit_0(&mut self, lent: Lent) -> Reply {
+        let header = 4..12.min(self.model.card.len());
+        let told = self.model.card[header.clone()].to_vec();
+        self.model.card[header.clone()].fill(0);
+        let reply = self.model.make(&Call::Start, lent, &[]);
+        self.model.card[header].copy_from_slice(&told);
+        reply
+    }
+
+    fn skip_trailer(&mut self) -> Option<()> {
+        let store = self.model.store.as_mut()?;
+        if store.due() == Some(Kind::T) {
+            store.pending.as_mut()?.trailer_down = true;
+        }
+        Some(())
+    }
+
+    fn advance_at_once(&mut self, lent: Lent) -> Reply {
+        while let Ok(wrote) = self.model.advance(lent) {
+            self.unreported.push_back(wrote);
+        }
+        match self.unreported.pop_front() {
+            None => self.model.make(&Call::Advance, lent, &[]),
+            Some((kind, block)) => Reply {
+                answer: Answer::Wrote(kind, block),
+                page: None,
+                wrote: Some(block),
+            },
+        }
+    }
+
+    fn refuse_full(&mut self, call: &Call, lent: Lent, bytes: &[u8]) -> Reply {
+        let before = self.model.clone();
+        let mut reply = self.model.make(call, lent, bytes);
+        let full = |model: &Model| {
+            let store = model.store.as_ref();
+            store.is_some_and(|store| store.current.size() == store.geometry.half())
+        };
+        if reply.answer == Answer::Done && full(&self.model) && !full(&before) {
+            self.model = before;
+            reply.answer = Answer::Refused(12);
+        }
+        reply
+    }
+
+    /// A write or rescind with the fault in it.
+    fn change(&mut self, call: &Call, lent: Lent, bytes: &[u8]) -> Reply {
+        let old = self.old_bytes(call);
+        let reply = match self.fault {
+            Fault::ReleasedEarly => return self.change_released(call, lent, bytes),
+            Fault::TwelveTooEarly => return self.refuse_full(call, lent, bytes),
+            Fault::WritesNothing => return self.model.clone().make(call, lent, bytes),
+            _ => self.model.make(call, lent, bytes),
+        };
+        if reply.answer == Answer::Done && !bytes.is_empty() {
+            match (self.fault, old) {
+                (Fault::PotAtHome, _) => self.put_pot_home(call),
+                (Fault::SnapshotAltered, _) => self.alter_snapshot(call),
+                (Fault::OldBytes, Some(old)) => self.put_on(call, old, bytes),
+                _ => None,
+            };
+        }
+        reply
+    }
+}
+
+impl Reference for Faulty {
+    fn make(&mut self, call: &Call, lent: Lent, bytes: &[u8]) -> Reply {
+        match (self.fault, call) {
+            (Fault::CommitZero, Call::Start) => self.start_at_commit_0(lent),
+            (Fault::AllAtOnce, Call::Advance) => self.advance_at_once(lent),
+            (_, Call::Write { .. }) => self.change(call, lent, bytes),
+            _ => {
+                if self.fault == Fault::NoTrailer && *call == Call::Advance {
+                    self.skip_trailer();
+                }
+                self.model.make(call, lent, bytes)
+            }
+        }
+    }
+
+    fn model(&mut self) -> &mut Model {
+        &mut self.model
+    }
+}
+
+/// As a library it has the lent card from format and start on, and gives back
+/// what it has made of it.
+impl Library for Faulty {
+    fn make(&mut self, call: &Call, loan: Loan<'_>, buffer: &mut [u8]) -> Answer {
+        let lent = Lent {
+            card: loan.card.len(),
+            memory: loan.memory.len(),
+        };
+        let card = self.model.card.clone();
+        if matches!(call, Call::Format { .. } | Call::Start) {
+            self.model.card = loan.card.to_vec();
+            self.unreported.clear();
+        }
+        let reply = Reference::make(self, call, lent, buffer);
+        if reply.answer.is_done() {
+            loan.card.copy_from_slice(&self.model.card);
+        } else if matches!(call, Call::Format { .. }) {
+            self.model.card = card;
+        }
+        if let Some(page) = &reply.page {
+            buffer.copy_from_slice(page);
+        }
+        if *call == Call::Start {
+            let started = u8::from(reply.answer.is_done());
+            loan.record.0[..RECORD].fill(started);
+        }
+        reply.answer
+    }
+}
