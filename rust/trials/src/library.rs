@@ -3,6 +3,9 @@
 //! neither a record of any bytes with a margin after it nor ranges of an odd
 //! number of words.
 
+// For the library that it links.
+use lane as _;
+
 use crate::call::{Answer, Call};
 use model::Kind;
 use std::ops::Range;
