@@ -133,7 +133,7 @@ FrameKept c l a l′ = Keeps (outcome c l) (handedBack c l) l a l′
 unfoldable pub numbered : ℕ → FrameAnswer
 numbered n = cond (eqb n 0) done (refused n)
 
--- advance's answer: document 01's letters are the kinds that it reports
+-- what advance and page-out answer: document 01's letters are the kinds that they report
 unfoldable pub reported : Advance → FrameAnswer
 reported (P n) = wrote page n
 reported (D n) = wrote directory n

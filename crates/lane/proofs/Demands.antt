@@ -10,7 +10,7 @@ use Rattle.card.proofs.Test.{byTest}
 use Rattle.card.specs.Question.{firstNo}
 use Rattle.frames.specs.Promise.{Lent, lent, numbered}
 use Rattle.lane.specs.Demands.{LinkedCalls, finished, next, replies, LinkedDemand2, LinkedRun, ended, calls, cuts, LinkedDemand3}
-use Rattle.lane.specs.Linked.{Reply, number, filling, present, report, numberOf, countOf, bytesOf, replyOf, Linked}
+use Rattle.lane.specs.Linked.{Reply, number, filling, present, report, numberOf, countOf, bytesOf, replyOf}
 use Rattle.pages.proofs.Demand2.{demand-2}
 use Rattle.pages.proofs.Demand3.{demand-3}
 use Rattle.pages.specs.Book.{Event}

@@ -122,7 +122,7 @@ fn morning(card: &mut [u8], memory: &mut [u8]) -> Store {
     advance_all(u, card, memory)
 }
 
-// After a power-up the record and memory of the morning are gone.
+// After a power-up memory holds any bytes, and start does not read the record that it is lent.
 fn evening(card: &mut [u8], s: Store) {
     let memory = [255u8; 2048];
     let t = start(s, card, &memory);
