@@ -2,6 +2,7 @@
 --
 -- A card, a block and a buffer are lists of bytes. All of them are read by `part` and written by `patch`.
 -- Assumes nothing.
+use mathlib.Core.Bool.{Bool, true, _&&_}
 use mathlib.Core.List.{List, [], _∷_, _++_}
 use Prim.Native.Nat.{ℕ, zero, suc, _+_, _-_, _*_, _/_, _%_}
 use lib.ListN.{length, take, drop, getD, replicate}
@@ -18,6 +19,11 @@ patch s at v = take at s ++ (v ++ drop (at + length v) s)
 unfoldable pub tabulate : {A : Type 0} → (ℕ → A) → ℕ → ℕ → List A
 tabulate f i zero = []
 tabulate f i (suc n) = f i ∷ tabulate f (suc i) n
+
+-- is the test passed at i, i + 1 and so on, n numbers?
+unfoldable pub each : (ℕ → Bool) → ℕ → ℕ → Bool
+each t i zero = true
+each t i (suc n) = t i && each t (suc i) n
 
 -- every member
 abbrev pub All : {A : Type 0} → (A → Type 0) → List A → Type 0

@@ -63,3 +63,13 @@ pub fn copy(card: &mut [u8], from: usize, to: usize)
     get(card, from, &mut bytes);
     put(card, to, &bytes);
 }
+
+// A block's bytes as an array of their own.
+pub fn array(bytes: &[u8]) -> [u8; 512]
+    requires { ⌜ length (now bytes) ≡ 512 ⌝ }
+    ensures { λ r. ⌜ r ≡ now (bytes .entry) ⌝ }
+{
+    let mut r = empty();
+    bytes::copy(bytes, &mut r);
+    r
+}

@@ -3,13 +3,12 @@ use super::block;
 use super::number;
 use super::ring;
 ghost use mathlib.Core.Path.{_≡_};
-ghost use mathlib.Core.Bool.{true, _&&_};
+ghost use mathlib.Core.Bool.{true};
 ghost use Prim.Native.Nat.{_+_, _*_, _/_, _≤_, min};
-ghost use lib.Dec.{leb, ltb};
 ghost use lib.ListN.{length};
-ghost use Rattle.card.specs.Ring.{ringOffset, dirBlocks};
+ghost use Rattle.card.specs.Ring.{dirBlocks};
 ghost use Rattle.card.specs.Directory.{entriesOf, dirBlock, entryOn, readDir};
-ghost use Rattle.card.specs.Question.{entriesFit};
+ghost use Rattle.card.specs.Question.{entryFits, entriesFit, rising, inArea, among};
 
 // A frame, by its home block, and the area block that holds it.
 #[repr(C)]
@@ -103,7 +102,7 @@ fn entry_fits(
     block: usize,
 ) -> bool
     requires { ⌜ (area ≤ 512) × (first ≤ area) ⌝ }
-    ensures { λ r. ⌜ r ≡ ltb low frame && (ltb frame blocks && (leb 1 block && (leb block area && ltb (ringOffset area first block) p))) ⌝ }
+    ensures { λ r. ⌜ r ≡ entryFits blocks area first p low (record { frame = frame; block = block }) ⌝ }
 {
     if frame <= low {
         return false;
@@ -117,7 +116,12 @@ fn entry_fits(
     if area < block {
         return false;
     }
-    ring::offset(area, first, block) < p
+    let offset = ring::offset(
+        number::short(area),
+        number::short(first),
+        number::short(block),
+    );
+    number::from_short(offset) < p
 }
 
 // The directory of e entries behind p page blocks from first on, on a card of so many blocks, with question 8. A card can hold any 32-bit numbers as an entry,
@@ -151,7 +155,63 @@ pub fn read(card: &[u8], blocks: usize, area: usize, first: usize, p: usize, e: 
     }
 }
 
-// Question 8, of the entries in a record.
+// Does each of the first n elements stand above the one before it? Question 8 of a record is asked at every call: this loop and the next two go on after a "no", so that
+// they are compiled to vector code.
+fn rising(l: &[u16; 256], n: usize) -> bool
+    requires { ⌜ n ≤ 256 ⌝ }
+    ensures { λ r. ⌜ r ≡ rising (now (l .entry)) n ⌝ }
+{
+    let mut all = true;
+    let mut i = 1;
+    while i < n {
+        if l[i] <= l[i - 1] {
+            all = false;
+        }
+        i += 1;
+    }
+    all
+}
+
+// Is each of the first n elements a block of the area?
+fn in_area(l: &[u16; 256], n: usize, area: u16) -> bool
+    requires { ⌜ n ≤ 256 ⌝ }
+    ensures { λ r. ⌜ r ≡ inArea area (now (l .entry)) n ⌝ }
+{
+    let mut above = true;
+    let mut below = true;
+    let mut i = 0;
+    while i < n {
+        if l[i] < 1 {
+            above = false;
+        }
+        if area < l[i] {
+            below = false;
+        }
+        i += 1;
+    }
+    if !above {
+        return false;
+    }
+    below
+}
+
+// Is each of the first n elements, all blocks of the area, among the p blocks from first on?
+fn among(l: &[u16; 256], n: usize, area: u16, first: u16, p: u16) -> bool
+    requires { ⌜ (n ≤ 256) × ((area ≤ 512) × ((first ≤ area) × (inArea area (now l) n ≡ true))) ⌝ }
+    ensures { λ r. ⌜ r ≡ among area first p (now (l .entry)) n ⌝ }
+{
+    let mut all = true;
+    let mut i = 0;
+    while i < n {
+        if p <= ring::offset(area, first, l[i]) {
+            all = false;
+        }
+        i += 1;
+    }
+    all
+}
+
+// Question 8, of the entries in a record, array by array.
 pub fn fits<'a>(
     card: usize,
     area: usize,
@@ -161,19 +221,24 @@ pub fn fits<'a>(
     blocks: &'a [u16; 256],
     count: usize,
 ) -> bool
-    requires { ⌜ (area ≤ 512) × ((first ≤ area) × (count ≤ 256)) ⌝ }
+    requires { ⌜ (area ≤ 512) × ((first ≤ area) × ((p ≤ 512) × (count ≤ 256))) ⌝ }
     ensures { λ r. ⌜ r ≡ entriesFit card area first p area (entriesOf (now (frames .entry)) (now (blocks .entry)) count) ⌝ }
 {
-    let mut low = area;
-    let mut i = 0;
-    while i < count {
-        let frame = number::from_short(frames[i]);
-        let block = number::from_short(blocks[i]);
-        if !entry_fits(card, area, first, p, low, frame, block) {
-            return false;
-        }
-        low = frame;
-        i += 1;
+    if count == 0 {
+        return true;
     }
-    true
+    if !rising(frames, count) {
+        return false;
+    }
+    if number::from_short(frames[0]) <= area {
+        return false;
+    }
+    if card <= number::from_short(frames[count - 1]) {
+        return false;
+    }
+    let last = number::short(area);
+    if !in_area(blocks, count, last) {
+        return false;
+    }
+    among(blocks, count, last, number::short(first), number::short(p))
 }

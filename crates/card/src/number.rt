@@ -1,4 +1,4 @@
-// Stored numbers: 32 bits, low byte first. And short ones, 16 bits: a record keeps block numbers so, since a card has at most 65536 blocks.
+// Stored numbers: 32 bits, low byte first. And short ones, 16 bits: a record keeps block numbers so, since a card has at most 65536 blocks. A byte holds a place.
 ghost use mathlib.Core.Path.{_≡_};
 ghost use Prim.Native.Nat.{_+_, _*_, _≤_, _<_};
 ghost use lib.ListN.{length, take};
@@ -32,6 +32,19 @@ pub fn short(x: usize) -> u16
 
 pub fn from_short(x: u16) -> usize
     ensures { λ r. ⌜ (r ≡ x) × (r < 65536) ⌝ }
+{
+    x as usize
+}
+
+pub fn byte(x: usize) -> u8
+    requires { ⌜ x < 256 ⌝ }
+    ensures { λ r. ⌜ r ≡ x ⌝ }
+{
+    x as u8
+}
+
+pub fn from_byte(x: u8) -> usize
+    ensures { λ r. ⌜ (r ≡ x) × (r < 256) ⌝ }
 {
     x as usize
 }

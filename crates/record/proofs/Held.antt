@@ -9,14 +9,13 @@ use mathlib.Core.Logic.{_≢_, ⊎-elim}
 use mathlib.Core.Path.{_≡_, refl}
 use native.Mathlib.Omega.{arith}
 use Rattle.card.proofs.RangeLaws.{geometry-tells}
-use Rattle.card.proofs.RingLaws.{size-some, entries-small}
-use Rattle.card.proofs.Test.{byTest, both, joined, le-or-lt}
+use Rattle.card.proofs.Test.{byTest, both, joined, le-or-lt, each-at, each-all}
 use Rattle.card.specs.Directory.{entriesOf}
 use Rattle.card.specs.Question.{entriesFit}
 use Rattle.card.specs.Range.{rangesOf, geometryFits}
 use Rattle.card.specs.Ring.{half}
-use Rattle.record.proofs.HoldTests.{sizes-tell, none-told, some-told, committed-told, down-told, no-pending, any-pending, few-pending, current-told}
-use Rattle.record.proofs.Tests.{within-each, each-within, once-apart, apart-once, alone-stands, stands-alone, alone-each, each-alone}
+use Rattle.record.proofs.HoldTests.{sizes-tell, spans-small, none-told, some-told, committed-told, down-told, no-pending, any-pending, few-pending, current-told}
+use Rattle.record.proofs.Tests.{within-each, each-within, once-apart, apart-once, alone-stands, stands-alone}
 use Rattle.record.specs.Holds.{geometryHolds, committedHolds, pendingHolds, currentHolds, sizesHold, tailFor, orderHolds, memoryHolds, countsHold, spansHold, changesHold, holdsTogether}
 use Rattle.record.specs.Lists.{cells, once, allWithin}
 use Rattle.record.specs.Meaning.{waits, sizeOf, committedSizeOf}
@@ -45,7 +44,7 @@ module _ (area blocks : ℕ) (g : Changes) where
         single = λ i j l h. once-apart (λ k. getD (g .frames) k 0) 0 (g .count) (b .0) i j (omega arith) l (omega arith);
         taken = λ i h. within-each 0 (g .taken) (λ k. getD (g .places) k 0) 0 (g .count) (c .0) i (omega arith) (omega arith) .1;
         stands = λ k l h.
-            let p = alone-stands (λ k. getD (g .places) k 0) k 0 (g .count) (alone-each (cells (g .places) 0 (g .count)) (g .down) (waits g) (c .1) k l (omega arith)) in
+            let p = alone-stands (λ k. getD (g .places) k 0) k 0 (g .count) (each-at _ (g .down) (waits g) k (c .1) l (omega arith)) in
             (p .0, omega (arith, p .2), p .3, λ j q r. p .4 j (omega arith) (omega arith) r);
       }
 
@@ -58,7 +57,7 @@ module _ (area blocks : ℕ) (g : Changes) where
       (apart-once (λ k. getD (g .frames) k 0) 0 (g .count) (λ i j a l b. h .single i j l (omega arith)))
       (joined (allWithin 0 (g .taken) (cells (g .places) 0 (g .count))) _
       (each-within 0 (g .taken) (λ k. getD (g .places) k 0) 0 (g .count) (λ i a b. (omega arith, h .taken i (omega arith))))
-      (each-alone (cells (g .places) 0 (g .count)) (g .down) (waits g)
+      (each-all _ (g .down) (waits g)
       (λ k a b.
       let p = h .stands k a (omega arith) in
       stands-alone (λ i. getD (g .places) i 0) k 0 (g .count) (p .0, omega arith, omega (arith, p .1), p .2, λ j c d q. p .3 j (omega arith) q)))))
@@ -188,22 +187,17 @@ together s h =
 -- ---- bounds
 
 pub bounds : (s : Store) → Held s → Bounds s
+unfolding holdsTogether
 bounds s h =
+    let counts = both (countsHold s) _ (together s h) in
+    let small = spans-small s (counts .0) (both (spansHold s) _ (counts .1) .0) in
     let g = geometry-tells _ _ _ (h .geometry) in
-    let most = half (s .geometry .area) in
-    let high : s .geometry .area ≤ 512 = g .area-high in
-    let a : s .committed .count ≤ most = entries-small (s .pages) (s .committed .count) most (h .committed-few) (h .half-committed) in
-    let b : s .pending .count ≤ most = entries-small (s .pending .taken) (s .pending .count) most (h .pending-few) (h .half-pending) in
-    let c : s .current .count ≤ most = entries-small (s .current .taken) (s .current .count) most (h .current-few) (h .half-current) in
     record {
       area-low = g .area-low;
-      area-high = high;
+      area-high = small .area;
       area-inside = omega (arith, g .full);
-      committed-small = omega arith;
-      pending-small = omega arith;
-      pending-taken = ⊎-elim
-          (λ l. omega (arith, size-some (s .pending .taken) (s .pending .count) l, h .half-pending))
-          (λ l. let z : s .pending .taken ≡ 0 = h .none-pending (omega (arith, l)) in omega (arith, z))
-          (le-or-lt 1 (s .pending .count));
-      current-small = omega arith;
+      committed-small = small .committed;
+      pending-small = small .pending;
+      pending-taken = ⊎-elim (λ l. omega (arith, small .pending-taken l)) (λ l. omega (arith, h .none-pending (omega (arith, l)))) (le-or-lt 1 (s .pending .count));
+      current-small = small .current;
     }

@@ -10,10 +10,10 @@ use mathlib.Core.Path.{_≡_, refl, sym, _∙_}
 use native.Mathlib.Omega.{arith}
 use Rattle.card.proofs.RangeLaws.{geometry-tells}
 use Rattle.card.proofs.RingLaws.{size-some, entries-small}
-use Rattle.card.proofs.Test.{both, le-or-lt}
+use Rattle.card.proofs.Test.{both, le-or-lt, each-no, each-end}
 use Rattle.card.specs.Range.{rangesOf}
 use Rattle.card.specs.Ring.{half}
-use Rattle.record.proofs.ListLaws.{cells-none, stand-no, stand-end}
+use Rattle.record.proofs.ListLaws.{cells-none}
 use Rattle.record.specs.Holds.{geometryHolds, committedHolds, pendingHolds, currentHolds, sizesHold, countsHold, spansHold, changesHold}
 use Rattle.record.specs.Lists.{once, alone, allAlone, allWithin}
 use Rattle.record.specs.Meaning.{sizeOf, committedSizeOf}
@@ -32,8 +32,8 @@ sum-leb a b c h = ⊎-elim
 stand-none : (k to : ℕ) → allAlone [] k (to - k) ≡ leb to k
 unfolding alone
 stand-none k to = ⊎-elim
-    (λ h. stand-end [] k to h ∙ sym (le-leb to k h))
-    (λ h. stand-no [] k to h refl ∙ sym (lt-leb to k h))
+    (λ h. sym (each-end _ k to true refl h) ∙ sym (le-leb to k h))
+    (λ h. sym (each-no _ k to true refl h refl refl) ∙ sym (lt-leb to k h))
     (le-or-lt to k)
 
 pub none-hold : (area blocks : ℕ) (g : Changes) → g .count ≡ 0 → changesHold area blocks g ≡ leb (g .taken) (g .down)
@@ -82,6 +82,9 @@ module _ (commit area first p e : ℕ) (h : committedHolds commit area first p e
       (λ z. let n = some-told z in (n .2, n .3, n .1))
       (le-or-lt commit 0)
 
+  pub no-committed : e ≡ 0 → p ≡ 0
+  no-committed none = ⊎-elim (λ z. none-told (omega (arith, z)) .1) (λ z. absurd (omega (arith, some-told z .0))) (le-or-lt commit 0)
+
 module _ (commit p e down : ℕ) (h : pendingHolds commit p e down ≡ true) where
   pub down-told : down ≤ p
   unfolding pendingHolds
@@ -107,6 +110,7 @@ pub record Counts (s : Store) : Type 0 where
   pub area : s .geometry .area ≤ 512
   pub first : s .first ≤ s .geometry .area
   pub committed : s .committed .count ≤ s .pages
+  pub no-pages : s .committed .count ≡ 0 → s .pages ≡ 0
   pub pending : s .pending .count ≤ s .pending .taken
   pub pending-down : s .pending .down ≤ s .pending .taken
   pub current : s .current .count ≤ s .current .taken
@@ -126,6 +130,7 @@ counts-tell s e =
       area = g .area-high;
       first = committed .1;
       committed = committed .2;
+      no-pages = no-committed (s .commit) (s .geometry .area) (s .first) (s .pages) (s .committed .count) (b .0);
       pending = few-pending (s .commit) (s .pending .taken) (s .pending .count) (s .pending .down) (c .0);
       pending-down = down-told (s .commit) (s .pending .taken) (s .pending .count) (s .pending .down) (c .0);
       current = current .1;
@@ -138,9 +143,11 @@ counts-tell s e =
 pub record Small (s : Store) : Type 0 where
   pub area : s .geometry .area ≤ 512
   pub first : s .first ≤ s .geometry .area
+  pub pages : s .pages ≤ 512
   pub committed : s .committed .count ≤ 256
   pub pending : s .pending .count ≤ 256
   pub pending-taken : 0 < s .pending .count → s .pending .taken < 256
+  pub current : s .current .count ≤ 256
   pub current-taken : 0 < s .current .count → s .current .taken < 256
 
 pub sizes-small : (s : Store) → countsHold s ≡ true → sizesHold (s .geometry .area) (committedSizeOf s) (sizeOf (s .pending)) (sizeOf (s .current)) ≡ true → Small s
@@ -151,12 +158,18 @@ sizes-small s e f =
     let area : s .geometry .area ≤ 512 = c .area in
     let a : s .committed .count ≤ most = entries-small (s .pages) (s .committed .count) most (c .committed) (z .half-a) in
     let b : s .pending .count ≤ most = entries-small (s .pending .taken) (s .pending .count) most (c .pending) (z .half-b) in
+    let d : s .current .count ≤ most = entries-small (s .current .taken) (s .current .count) most (c .current) (z .half-c) in
     record {
       area = area;
       first = c .first;
+      pages = ⊎-elim
+          (λ none. omega (arith, c .no-pages (omega (arith, none))))
+          (λ some. omega (arith, size-some (s .pages) (s .committed .count) some, z .half-a))
+          (le-or-lt (s .committed .count) 0);
       committed = omega arith;
       pending = omega arith;
       pending-taken = λ l. omega (arith, size-some (s .pending .taken) (s .pending .count) l, z .half-b);
+      current = omega arith;
       current-taken = λ l. omega (arith, size-some (s .current .taken) (s .current .count) l, z .half-c);
     }
 

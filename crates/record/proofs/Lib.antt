@@ -1,6 +1,5 @@
 -- What question 2 tells of a record, and that its meaning is then sound.
 pub mod ListLaws
-pub mod ChainLaws
 pub mod HoldTests
 pub mod Tests
 pub mod Held

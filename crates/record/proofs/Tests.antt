@@ -2,16 +2,15 @@
 -- Assumes nothing.
 use Prim.Native.Nat.{ℕ, zero, suc, _+_, _≤_, _<_}
 use borrow.Author.Tests.{ltb-true, leb-true, eqb-false, not-true, lt-ltb, le-leb, eq-eqb, ne-eqb}
-use lib.Dec.{leb, ltb, eqb}
-use mathlib.Core.Bool.{Bool, true, false, cond, _&&_, false≢true}
-use mathlib.Core.List.{List}
+use lib.Dec.{leb, eqb}
+use mathlib.Core.Bool.{Bool, true, false, cond, false≢true}
 use mathlib.Core.Logic.{_≢_, ⊎-elim}
 use mathlib.Core.Path.{_≡_, refl, ap, sym, _∙_}
 use native.Mathlib.Decide.{ℕ-discrete}
 use native.Mathlib.Omega.{arith}
-use Rattle.card.proofs.Test.{both, joined, le-or-lt}
-use Rattle.card.specs.Bytes.{tabulate}
-use Rattle.record.specs.Lists.{elem, once, alone, allAlone, within, allWithin}
+use Rattle.card.proofs.Test.{both, joined, le-or-lt, each-at, each-all}
+use Rattle.card.specs.Bytes.{tabulate, each}
+use Rattle.record.specs.Lists.{elem, once, alone, within, allWithin}
 
 -- ---- every index of a run
 
@@ -26,20 +25,19 @@ run P i n p q k a b = go (ℕ-discrete i k)
 -- ---- allWithin
 
 module _ (low high : ℕ) (f : ℕ → ℕ) where
+  -- as a test at each index
+  pub within-tab : (i n : ℕ) → allWithin low high (tabulate f i n) ≡ each (λ k. within low high (f k)) i n
+  unfolding allWithin tabulate each
+  within-tab i zero = refl
+  within-tab i (suc n) = rw (within-tab (suc i) n)
+
   pub within-each : (i n : ℕ) → allWithin low high (tabulate f i n) ≡ true → (k : ℕ) → i ≤ k → k < i + n → (low ≤ f k) × (f k < high)
-  unfolding tabulate allWithin within
-  within-each i zero h = λ k a b. absurd (omega arith)
-  within-each i (suc n) h =
-      let p = both (leb low (f i) && ltb (f i) high) _ h in
-      let q = both (leb low (f i)) _ (p .0) in
-      run (λ k. (low ≤ f k) × (f k < high)) i n (leb-true _ _ (q .0), ltb-true _ _ (q .1)) (within-each (suc i) n (p .1))
+  unfolding within
+  within-each i n h k a b = let p = both (leb low (f k)) _ (each-at (λ j. within low high (f j)) i n k (sym (within-tab i n) ∙ h) a b) in (leb-true _ _ (p .0), ltb-true _ _ (p .1))
 
   pub each-within : (i n : ℕ) → ((k : ℕ) → i ≤ k → k < i + n → (low ≤ f k) × (f k < high)) → allWithin low high (tabulate f i n) ≡ true
-  unfolding tabulate allWithin within
-  each-within i zero h = refl
-  each-within i (suc n) h =
-      let p = h i (omega arith) (omega arith) in
-      joined (leb low (f i) && ltb (f i) high) _ (joined (leb low (f i)) _ (le-leb _ _ (p .0)) (lt-ltb _ _ (p .1))) (each-within (suc i) n (λ k a b. h k (omega arith) (omega arith)))
+  unfolding within
+  each-within i n h = within-tab i n ∙ each-all (λ j. within low high (f j)) i n (λ k a b. let p = h k a b in joined (leb low (f k)) _ (le-leb _ _ (p .0)) (lt-ltb _ _ (p .1)))
 
 -- ---- elem
 
@@ -132,16 +130,3 @@ module _ (f : ℕ → ℕ) where
       go (no d) rec =
           let other : i ≢ s .0 = λ q. d (ap f q ∙ s .3) in
           rw (ne-eqb (f i) x d) (rec (s .0, omega (arith, s .1), omega (arith, s .2), s .3, λ j a b q. s .4 j (omega arith) (omega arith) q))
-
--- ---- allAlone
-
-module _ (l : List ℕ) where
-  pub alone-each : (i n : ℕ) → allAlone l i n ≡ true → (k : ℕ) → i ≤ k → k < i + n → alone k l ≡ true
-  unfolding allAlone
-  alone-each i zero h = λ k a b. absurd (omega arith)
-  alone-each i (suc n) h = let p = both (alone i l) _ h in run (λ k. alone k l ≡ true) i n (p .0) (alone-each (suc i) n (p .1))
-
-  pub each-alone : (i n : ℕ) → ((k : ℕ) → i ≤ k → k < i + n → alone k l ≡ true) → allAlone l i n ≡ true
-  unfolding allAlone
-  each-alone i zero h = refl
-  each-alone i (suc n) h = joined (alone i l) _ (h i (omega arith) (omega arith)) (each-alone (suc i) n (λ k a b. h k (omega arith) (omega arith)))

@@ -19,12 +19,15 @@ use Rattle.recovery.specs.State.{Committed, Generation, State}
 abbrev pub waits : Changes → ℕ
 waits g = g .taken - g .down
 
--- entries in memory, in order of first change
+-- entries in memory, in order of first change: entry i of two arrays, the first `count`, and those of a generation
 abbrev pub noteIn : List ℕ → List ℕ → ℕ → Note
 noteIn frames places i = record { frame = getD frames i 0; place = getD places i 0 }
 
+abbrev pub notesIn : List ℕ → List ℕ → ℕ → List Note
+notesIn frames places count = tabulate (noteIn frames places) 0 count
+
 abbrev pub notesOf : Changes → List Note
-notesOf g = tabulate (noteIn (g .frames) (g .places)) 0 (g .count)
+notesOf g = notesIn (g .frames) (g .places) (g .count)
 
 -- the sizes of the three generations
 abbrev pub sizeOf : Changes → ℕ

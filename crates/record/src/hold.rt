@@ -209,7 +209,7 @@ fn changes_hold<'a>(
     p: usize,
     d: usize,
     frames: &'a [u16; 256],
-    places: &'a [u16; 256],
+    places: &'a [u8; 256],
 ) -> bool
     requires { ⌜ (area ≤ 512) × ((n ≤ p) × (p < 256)) ⌝ }
     ensures { λ r. ⌜ r ≡ changesHold area blocks (record { count = n; taken = p; down = d; frames = now (frames .entry); places = now (places .entry) }) ⌝ }
@@ -220,13 +220,14 @@ fn changes_hold<'a>(
     if !list::all_once(frames, n) {
         return false;
     }
-    if !list::all_within(places, n, 0, p) {
+    if !list::all_taken(places, n, p) {
         return false;
     }
     list::all_stand(places, n, d, p)
 }
 
-// An empty directory is settled first: it need not be copied, and its places may be many.
+// An empty directory is settled first: it need not be copied, and its places may be many. `current_listed` differs in a name only: one function for both that
+// took the generation by value would copy it twice.
 fn pending_listed(s: Store) -> bool
     requires { ⌜ (countsHold s ≡ true) × (spansHold s ≡ true) ⌝ }
     ensures { λ r. ⌜ r ≡ changesHold (s .geometry .area) (s .geometry .blocks) (s .pending) ⌝ }

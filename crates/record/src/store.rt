@@ -13,14 +13,15 @@ pub struct Geometry {
 }
 
 // The pending or the current generation: e entries in order of first change, each a frame and the last place that it took; p places taken; places put down.
-// Place i is the block i on from the generation's first. A frame waits where its place is not down.
+// Place i is the block i on from the generation's first: a generation's size is at most 256, so that a byte holds its places. A frame waits where its place
+// is not down.
 #[repr(C)]
 pub struct Changes {
     pub count: usize,
     pub taken: usize,
     pub down: usize,
     pub frames: [u16; 256],
-    pub places: [u16; 256],
+    pub places: [u8; 256],
 }
 
 // `frames` is the number of memory frames. Those that wait stand in them one after the other from `head` on, the pending ones first; after the last comes
@@ -50,7 +51,7 @@ pub fn no_change() -> Changes
         taken: 0,
         down: 0,
         frames: [0u16; 256],
-        places: [0u16; 256],
+        places: [0u8; 256],
     }
 }
 

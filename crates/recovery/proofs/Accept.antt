@@ -1,8 +1,7 @@
 -- Start accepts a card exactly where the card is recoverable.
 -- Assumes nothing.
 use Prim.Native.Nat.{ℕ, zero, suc, _+_, _-_, _*_, _/_, _≤_, _<_}
-use borrow.Author.Tests.{ltb-true, leb-true, eqb-true, lt-ltb, le-leb, eq-eqb, ne-eqb}
-use lib.Dec.{leb, ltb}
+use borrow.Author.Tests.{eqb-true, lt-ltb, le-leb, eq-eqb, ne-eqb}
 use lib.ListN.{length}
 use mathlib.Core.Bool.{true}
 use mathlib.Core.List.{List, [], _∷_}
@@ -12,7 +11,7 @@ use native.Mathlib.Omega.{arith}
 use Rattle.card.proofs.AllLaws.{all-map}
 use Rattle.card.proofs.BytesLaws.{tab-length}
 use Rattle.card.proofs.CheckpointLaws.{whole-tells, whole-is}
-use Rattle.card.proofs.QuestionLaws.{none-asked, asked-yes, passed-both, HeaderTells, trailer-tells, header-numbered, groups-passed, header-tells}
+use Rattle.card.proofs.QuestionLaws.{none-asked, asked-yes, passed-both, HeaderTells, entry-tells, trailer-tells, header-numbered, groups-passed, header-tells}
 use Rattle.card.proofs.RangeLaws.{Geometry, geometry-tells}
 use Rattle.card.proofs.RingLaws.{on-in, size-some}
 use Rattle.card.proofs.Test.{both, joined}
@@ -20,9 +19,9 @@ use Rattle.card.specs.Block.{blockAt, whole}
 use Rattle.card.specs.Bytes.{tabulate, All}
 use Rattle.card.specs.Directory.{readDir}
 use Rattle.card.specs.Header.{headerOn}
-use Rattle.card.specs.Question.{ask, firstNo, headerRanges, commitFits, headerAsks, endsAt, trailerFits, entriesFit, committedOn, entriesOn, generationAsks, cardAsks}
+use Rattle.card.specs.Question.{ask, firstNo, headerRanges, commitFits, headerAsks, endsAt, trailerFits, entryFits, entriesFit, committedOn, entriesOn, generationAsks, cardAsks}
 use Rattle.card.specs.Range.{Range}
-use Rattle.card.specs.Ring.{ringOffset, dirBlocks, generationSize}
+use Rattle.card.specs.Ring.{dirBlocks, generationSize}
 use Rattle.card.specs.Trailer.{trailerOn}
 use Rattle.card.specs.declared.directory.Entry.{Entry}
 use Rattle.recovery.proofs.Invariant.{Headed, Tail, Recoverable}
@@ -36,11 +35,12 @@ use Rattle.recovery.specs.Step.{startCommitted}
 -- entries that lie where they may, by rising frame, pass question 8
 pub entries-ok : (blocks area first p low : ℕ) (es : List Entry) → All (λ e. low < e .frame) es → All (Home area blocks) es → All (Between area first 0 p) es → Rising es
     → entriesFit blocks area first p low es ≡ true
-unfolding entriesFit
+unfolding entriesFit entryFits
 entries-ok blocks area first p low [] a h b r = refl
 entries-ok blocks area first p low (e ∷ es) a h b r =
-    joined _ _ (lt-ltb _ _ (a .0)) (joined _ _ (lt-ltb _ _ (h .0 .1)) (joined _ _ (le-leb _ _ (b .0 .0)) (joined _ _ (le-leb _ _ (b .0 .1))
-    (joined _ _ (lt-ltb _ _ (b .0 .3)) (entries-ok blocks area first p (e .frame) es (r .0) (h .1) (b .1) (r .1))))))
+    joined (entryFits blocks area first p low e) _
+    (joined _ _ (lt-ltb _ _ (a .0)) (joined _ _ (lt-ltb _ _ (h .0 .1)) (joined _ _ (le-leb _ _ (b .0 .0)) (joined _ _ (le-leb _ _ (b .0 .1)) (lt-ltb _ _ (b .0 .3))))))
+    (entries-ok blocks area first p (e .frame) es (r .0) (h .1) (b .1) (r .1))
 
 -- ---- a recoverable card is accepted
 
@@ -92,15 +92,12 @@ pub entries-told : (blocks area first p low : ℕ) (es : List Entry) → area �
 unfolding entriesFit
 entries-told blocks area first p low [] l e = (tt, (tt, (tt, tt)))
 entries-told blocks area first p low (x ∷ xs) l e =
-    let a = both (ltb low (x .frame)) _ e in
-    let b = both (ltb (x .frame) blocks) _ (a .1) in
-    let c = both (leb 1 (x .block)) _ (b .1) in
-    let d = both (leb (x .block) area) _ (c .1) in
-    let f = both (ltb (ringOffset area first (x .block)) p) _ (d .1) in
-    let up : low < x .frame = ltb-true _ _ (a .0) in
-    let r = entries-told blocks area first p (x .frame) xs (omega arith) (f .1) in (
+    let a = both (entryFits blocks area first p low x) _ e in
+    let t = entry-tells blocks area first p low x (a .0) in
+    let up : low < x .frame = t .above in
+    let r = entries-told blocks area first p (x .frame) xs (omega arith) (a .1) in (
       (up, all-map (λ y. x .frame < y .frame) (λ y. low < y .frame) xs (λ y h. omega arith) (r .0)),
-      (((omega arith, ltb-true _ _ (b .0)), r .1 .0), (((leb-true _ _ (c .0), leb-true _ _ (d .0), omega arith, ltb-true _ _ (f .0)), r .1 .1 .0), (r .0, r .1 .1 .1))),
+      (((omega arith, t .home), r .1 .0), (((t .least, t .most, omega arith, t .near), r .1 .1 .0), (r .0, r .1 .1 .1))),
     )
 
 -- without a commit there is no trailer

@@ -2,10 +2,12 @@
 -- Assumes nothing.
 use borrow.Author.Needs.{needs}
 use borrow.Author.Tests.{lt-ltb, le-ltb, le-leb, lt-leb}
+use Rattle.card.specs.Question.{entryFits}
 use Rattle.card.proofs.directory.entry_fits.Statement.{statement}
 use Rattle.card.proofs.directory.entry_fits.Tie as tie
 
 pub entry-fits-spec : {M : Type 1} → statement M
+unfolding entryFits
 entry-fits-spec =
     tie.close
     (tie.spec
@@ -14,4 +16,8 @@ entry-fits-spec =
     (λ c. simp (lt-ltb _ _ (c .before .before .if1 .left), lt-ltb _ _ (c .before .if2 .left), lt-leb _ _ (c .if3 .taken)))
     (λ c. simp (lt-ltb _ _ (c .before .before .before .if1 .left), lt-ltb _ _ (c .before .before .if2 .left), le-leb _ _ (c .before .if3 .left), lt-leb _ _ (c .if4 .taken)))
     (λ c κs. search needs)
-    (λ c. simp (lt-ltb _ _ (c .before .before .before .before .if1 .left), lt-ltb _ _ (c .before .before .before .if2 .left), le-leb _ _ (c .before .before .if3 .left), le-leb _ _ (c .before .if4 .left), c .offset .ensures)))
+    (λ c κs. search needs)
+    (λ c κs. search needs)
+    (λ c κs. search needs)
+    (λ c κs. search needs)
+    (λ c. simp (lt-ltb _ _ (c .before .before .before .before .before .before .before .before .if1 .left), lt-ltb _ _ (c .before .before .before .before .before .before .before .if2 .left), le-leb _ _ (c .before .before .before .before .before .before .if3 .left), le-leb _ _ (c .before .before .before .before .before .if4 .left), c .from-short .ensures .0, c .before .offset .ensures, c .before .before .short3 .ensures, c .before .before .before .short2 .ensures, c .before .before .before .before .short .ensures)))

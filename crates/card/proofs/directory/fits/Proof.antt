@@ -1,70 +1,81 @@
--- `card::directory::fits` meets its contract. The loop leaves the entries from the i-th on to be asked about.
+-- `card::directory::fits` meets its contract: question 8 is asked array by array.
 -- Assumes nothing.
-use Prim.Native.Nat.{_-_, _≤_}
-use mathlib.Core.Path.{_≡_, ap, sym, _∙_}
+use borrow.Author.Needs.{needs}
+use borrow.Author.Tests.{lt-ltb, le-ltb}
+use mathlib.Core.Path.{sym}
 use native.Mathlib.Omega.{arith}
-use Rattle.card.proofs.BytesLaws.{tab-start, tab-end}
-use Rattle.card.proofs.DirectoryLaws.{entry-next}
-use Rattle.card.proofs.QuestionLaws.{fit-more, fit-stops, fit-end}
+use Rattle.card.proofs.BytesLaws.{tab-none}
+use Rattle.card.proofs.QuestionLaws.{fit-arrays, fit-end}
 use Rattle.card.proofs.Test.{said-no, said-yes}
-use Rattle.card.specs.Bytes.{tabulate}
 use Rattle.card.specs.Directory.{entryIn, entriesOf}
-use Rattle.card.specs.Question.{entriesFit}
 use Rattle.card.proofs.directory.fits.Statement.{statement}
 use Rattle.card.proofs.directory.fits.Tie as tie
 
-abbrev Inv-loop : tie.InvT-loop
-Inv-loop card area first p frames blocks count low₀ i₀ low i = (i ≤ count) × (entriesFit card area first p low (tabulate (entryIn frames blocks) i (count - i)) ≡ entriesFit card area first p area (entriesOf frames blocks count))
-
-abbrev μ-loop : tie.MeasureT-loop
-μ-loop card area first p frames blocks count low₀ i₀ low i = count - i
-
-loop-holds : tie.Need-loop-holds Inv-loop μ-loop
+returns : tie.Need-returns
 unfolding entriesOf
-loop-holds c = (omega arith, ap (entriesFit (c .args .card) (c .args .area) (c .args .first) (c .args .p) (c .args .area)) (tab-start (entryIn (c .args .frames .now) (c .args .blocks .now)) (c .args .count)))
-
-returns : tie.Need-returns Inv-loop μ-loop
 returns c =
-    let at-start = c .before .before .before .before .before .before .before .before in
-    let at-loop = c .before .before .before .before .before .before .before .loop in
-    let a = at-start .args in
-    let l = at-loop in
-    sym (fit-stops (a .card) (a .area) (a .first) (a .p) (l .low) _ _ _ (entry-next (entryIn (a .frames .now) (a .blocks .now)) (l .i) (a .count) _ _ (omega arith) (c .before .before .before .before .from-short .ensures .0) (c .before .before .from-short2 .ensures .0)) (said-no (c .before .entry-fits .ensures) (c .if1 .taken)))
-    ∙ l .inv .1
+    let a = c .before .args in
+    sym (fit-end (a .card) (a .area) (a .first) (a .p) (a .area) _ (rw (c .if1 .taken) (tab-none (entryIn (a .frames .now) (a .blocks .now)) 0)))
 
-loop-again : tie.Need-loop-again Inv-loop μ-loop
-loop-again c =
-    let at-start = c .before .before .before .before .before .before .before .before in
-    let at-loop = c .before .before .before .before .before .before .before .loop in
-    let a = at-start .args in
-    let l = at-loop in (
-      omega arith,
-      sym (fit-more (a .card) (a .area) (a .first) (a .p) (l .low) _ _ _ (entry-next (entryIn (a .frames .now) (a .blocks .now)) (l .i) (a .count) _ _ (omega arith) (c .before .before .before .before .from-short .ensures .0) (c .before .before .from-short2 .ensures .0)) (said-yes (c .before .entry-fits .ensures) (c .if1 .left)))
-          ∙ l .inv .1,
-    )
-
-returns-2 : tie.Need-returns-2 Inv-loop μ-loop
+returns-2 : tie.Need-returns-2
 returns-2 c =
-    let a = c .before .before .args in
-    let l = c .before .loop in
-    sym (fit-end (a .card) (a .area) (a .first) (a .p) (l .low) _ (tab-end (entryIn (a .frames .now) (a .blocks .now)) (l .i) (a .count) (omega arith))) ∙ l .inv .1
+    let a = c .before .before .before .args in
+    rw (fit-arrays (a .card) (a .area) (a .first) (a .p) (a .frames .now) (a .blocks .now) (a .area) (a .count) (omega arith), said-no (c .before .rising .ensures) (c .if2 .taken))
+
+returns-3 : tie.Need-returns-3
+returns-3 c =
+    let at-rising = c .before .before .before in
+    let a = at-rising .before .before .before .args in
+    rw (fit-arrays (a .card) (a .area) (a .first) (a .p) (a .frames .now) (a .blocks .now) (a .area) (a .count) (omega arith), said-yes (at-rising .before .rising .ensures) (at-rising .if2 .left), ← c .before .from-short .ensures .0, le-ltb _ _ (c .if3 .taken))
+
+returns-4 : tie.Need-returns-4
+returns-4 c =
+    let at-first = c .before .before .before in
+    let at-rising = at-first .before .before .before in
+    let a = at-rising .before .before .before .args in
+    rw (fit-arrays (a .card) (a .area) (a .first) (a .p) (a .frames .now) (a .blocks .now) (a .area) (a .count) (omega arith), said-yes (at-rising .before .rising .ensures) (at-rising .if2 .left), ← at-first .before .from-short .ensures .0, lt-ltb _ _ (at-first .if3 .left), ← c .before .from-short2 .ensures .0, le-ltb _ _ (c .if4 .taken))
+
+returns-5 : tie.Need-returns-5
+returns-5 c =
+    let at-last = c .before .before .before in
+    let at-first = at-last .before .before .before in
+    let at-rising = at-first .before .before .before in
+    let a = at-rising .before .before .before .args in
+    rw (fit-arrays (a .card) (a .area) (a .first) (a .p) (a .frames .now) (a .blocks .now) (a .area) (a .count) (omega arith), said-yes (at-rising .before .rising .ensures) (at-rising .if2 .left), ← at-first .before .from-short .ensures .0, lt-ltb _ _ (at-first .if3 .left), ← at-last .before .from-short2 .ensures .0, lt-ltb _ _ (at-last .if4 .left), ← c .before .before .short .ensures, said-no (c .before .in-area .ensures) (c .if5 .taken))
+
+among-requires : tie.Need-among-requires
+among-requires c κs =
+    let at-area = c .before .before in
+    (search needs, (search needs, (search needs, said-yes (at-area .before .in-area .ensures) (at-area .if5 .left))))
+
+returns-6 : tie.Need-returns-6
+returns-6 c =
+    let at-area = c .before .before .before in
+    let at-last = at-area .before .before .before in
+    let at-first = at-last .before .before .before in
+    let at-rising = at-first .before .before .before in
+    let a = at-rising .before .before .before .args in
+    rw (fit-arrays (a .card) (a .area) (a .first) (a .p) (a .frames .now) (a .blocks .now) (a .area) (a .count) (omega arith), said-yes (at-rising .before .rising .ensures) (at-rising .if2 .left), ← at-first .before .from-short .ensures .0, lt-ltb _ _ (at-first .if3 .left), ← at-last .before .from-short2 .ensures .0, lt-ltb _ _ (at-last .if4 .left), ← at-area .before .before .short .ensures, said-yes (at-area .before .in-area .ensures) (at-area .if5 .left), ← c .before .before .short2 .ensures, ← c .before .short3 .ensures) (c .among .ensures)
 
 pub fits-spec : {M : Type 1} → statement M
 fits-spec =
     tie.close
     (tie.spec
-    Inv-loop
-    μ-loop
-    loop-holds
-    (λ c. omega arith)
-    (λ c. omega arith)
-    (λ c κs. omega arith)
-    (λ c. omega arith)
-    (λ c. omega arith)
-    (λ c κs. omega arith)
-    (λ c κs. omega arith)
     returns
-    (λ c. omega arith)
-    (λ c. omega arith)
-    loop-again
-    returns-2)
+    (λ c κs. search needs)
+    returns-2
+    (λ c. search needs)
+    (λ c κs. search needs)
+    returns-3
+    (λ c. search needs)
+    (λ c. search needs)
+    (λ c. search needs)
+    (λ c κs. search needs)
+    returns-4
+    (λ c κs. search needs)
+    (λ c κs. search needs)
+    returns-5
+    (λ c κs. search needs)
+    (λ c κs. search needs)
+    among-requires
+    returns-6)

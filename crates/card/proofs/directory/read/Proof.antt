@@ -7,7 +7,7 @@ use mathlib.Core.Path.{_≡_, refl, ap, sym, _∙_}
 use native.Mathlib.Omega.{arith}
 use Rattle.card.proofs.BytesLaws.{tab-start, tab-end, Filled, filled-more}
 use Rattle.card.proofs.DirectoryLaws.{entries-filled, entry-next}
-use Rattle.card.proofs.QuestionLaws.{fit-more, fit-stops, fit-end, entry-bounds}
+use Rattle.card.proofs.QuestionLaws.{fit-more, fit-stops, fit-end, entry-tells}
 use Rattle.card.proofs.Test.{said-no, said-yes}
 use Rattle.card.specs.Bytes.{tabulate}
 use Rattle.card.specs.Directory.{entryOn, readDir}
@@ -48,14 +48,14 @@ short-requires : tie.Need-short-requires Inv-loop μ-loop
 short-requires c κs =
     let a = c .before .before .before .before .before .before .before .before .before .args in
     let l = c .before .before .before .before .before .before .loop in
-    let bounds = entry-bounds (a .blocks) (a .area) (a .first) (a .p) (l .low) (c .before .before .before .wide .result) (c .before .before .wide2 .result) (said-yes (c .before .entry-fits .ensures) (c .if1 .left)) in
+    let told = entry-tells (a .blocks) (a .area) (a .first) (a .p) (l .low) _ (said-yes (c .before .entry-fits .ensures) (c .if1 .left)) in
     omega arith
 
 short-requires-2 : tie.Need-short-requires-2 Inv-loop μ-loop
 short-requires-2 c κs =
     let a = c .before .before .before .before .before .before .before .before .before .before .args in
     let l = c .before .before .before .before .before .before .before .loop in
-    let bounds = entry-bounds (a .blocks) (a .area) (a .first) (a .p) (l .low) (c .before .before .before .before .wide .result) (c .before .before .before .wide2 .result) (said-yes (c .before .before .entry-fits .ensures) (c .before .if1 .left)) in
+    let told = entry-tells (a .blocks) (a .area) (a .first) (a .p) (l .low) _ (said-yes (c .before .before .entry-fits .ensures) (c .before .if1 .left)) in
     omega arith
 
 loop-again : tie.Need-loop-again Inv-loop μ-loop

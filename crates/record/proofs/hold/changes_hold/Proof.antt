@@ -11,16 +11,13 @@ returns-3 : tie.Need-returns-3
 unfolding changesHold
 returns-3 c =
     let at-all-within = c .before .before .before .before .before .all-within in
-    rw (said-yes (at-all-within .ensures) (c .before .before .before .before .if1 .left), said-yes (c .before .before .before .all-once .ensures) (c .before .before .if2 .left), said-no (c .before .all-within2 .ensures) (c .if3 .taken))
-
-all-stand-requires : tie.Need-all-stand-requires
-all-stand-requires c κs = (omega arith, (omega arith, said-yes (c .before .all-within2 .ensures) (c .if3 .left)))
+    rw (said-yes (at-all-within .ensures) (c .before .before .before .before .if1 .left), said-yes (c .before .before .before .all-once .ensures) (c .before .before .if2 .left), said-no (c .before .all-taken .ensures) (c .if3 .taken))
 
 returns-4 : tie.Need-returns-4
 unfolding changesHold
 returns-4 c =
     let at-all-within = c .before .before .before .before .before .before .all-within in
-    rw (said-yes (at-all-within .ensures) (c .before .before .before .before .before .if1 .left), said-yes (c .before .before .before .before .all-once .ensures) (c .before .before .before .if2 .left), said-yes (c .before .before .all-within2 .ensures) (c .before .if3 .left)) (c .all-stand .ensures)
+    rw (said-yes (at-all-within .ensures) (c .before .before .before .before .before .if1 .left), said-yes (c .before .before .before .before .all-once .ensures) (c .before .before .before .if2 .left), said-yes (c .before .before .all-taken .ensures) (c .before .if3 .left)) (c .all-stand .ensures)
 
 pub changes-hold-spec : {M : Type 1} → statement M
 unfolding changesHold
@@ -34,5 +31,5 @@ changes-hold-spec =
     (λ c. rw (said-yes (c .before .before .before .all-within .ensures) (c .before .before .if1 .left), said-no (c .before .all-once .ensures) (c .if2 .taken)))
     (λ c κs. search needs)
     returns-3
-    all-stand-requires
+    (λ c κs. (omega arith, omega arith))
     returns-4)

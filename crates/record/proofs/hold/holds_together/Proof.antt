@@ -10,9 +10,11 @@ use Rattle.record.proofs.hold.holds_together.Tie as tie
 fits-requires : tie.Need-fits-requires
 fits-requires c κs =
     let at-spans = c .before .before .before .before in
-    let at-start = at-spans .before .before .before .before in
-    let small = spans-small (at-start .args .s) (said-yes (at-spans .before .before .before .counts-hold .ensures) (at-spans .before .before .if1 .left)) (said-yes (at-spans .before .spans-hold .ensures) (at-spans .if2 .left)) in
-    (small .area, (small .first, small .committed))
+    let s = at-spans .before .before .before .before .args .s in
+    let counts = said-yes (at-spans .before .before .before .counts-hold .ensures) (at-spans .before .before .if1 .left) in
+    let spans = said-yes (at-spans .before .spans-hold .ensures) (at-spans .if2 .left) in
+    let small = spans-small s counts spans in
+    (small .area, (small .first, (small .pages, small .committed)))
 
 returns-3 : tie.Need-returns-3
 unfolding holdsTogether

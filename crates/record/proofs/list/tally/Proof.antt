@@ -13,23 +13,17 @@ Inv-loop l n count₀ i₀ count i = Tallied l count i n
 abbrev μ-loop : tie.MeasureT-loop
 μ-loop l n count₀ i₀ count i = n - i
 
-array-read-count : tie.Need-array-read-count Inv-loop μ-loop
-array-read-count c = omega (arith, c .from-short .ensures .0, c .before .before .before .before .before .pre .1 (c .before .before .before .loop .i) (omega arith))
-
 add-count : tie.Need-add-count Inv-loop μ-loop
 add-count c =
     let at-start = c .before .before .before .before .before in
     let at-loop = c .before .before .before .loop in
-    rw (c .from-short .ensures .0) (omega (arith, tallied-room (at-start .args .l .now) (at-loop .count) (at-loop .i) (at-start .args .n) (at-loop .inv) (omega arith)))
-
-array-write-count : tie.Need-array-write-count Inv-loop μ-loop
-array-write-count c = omega (arith, c .from-short .ensures .0, c .before .before .before .before .before .pre .1 (c .before .before .before .loop .i) (omega arith))
+    rw (c .from-byte .ensures .0) (omega (arith, tallied-room (at-start .args .l .now) (at-loop .count) (at-loop .i) (at-start .args .n) (at-loop .inv) (omega arith)))
 
 loop-again : tie.Need-loop-again Inv-loop μ-loop
 loop-again c =
     let at-start = c .before .before .before .before .before in
     let at-loop = c .before .before .before .loop in
-    rw (c .from-short .ensures .0) (tallied-more (at-start .args .l .now) (at-loop .count) (at-loop .i) (at-start .args .n) (at-loop .inv) (omega arith) (at-start .pre .1 (at-loop .i) (omega arith)))
+    rw (c .from-byte .ensures .0) (tallied-more (at-start .args .l .now) (at-loop .count) (at-loop .i) (at-start .args .n) (at-loop .inv) (omega arith) (omega (arith, c .from-byte .ensures)))
 
 returns : tie.Need-returns Inv-loop μ-loop
 returns c =
@@ -45,11 +39,10 @@ tally-spec =
     (λ c κs. search needs)
     (λ c. rw (c .zeros .ensures) (tallied-none (c .before .args .l .now) (c .before .args .n)))
     (λ c. omega arith)
-    (λ c. omega arith)
     (λ c κs. search needs)
-    array-read-count
+    (λ c. omega (arith, c .from-byte .ensures .1))
     add-count
-    array-write-count
+    (λ c. omega (arith, c .from-byte .ensures .1))
     (λ c. omega arith)
     (λ c. omega arith)
     loop-again
