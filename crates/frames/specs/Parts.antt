@@ -13,14 +13,13 @@ use Rattle.card.specs.Question.{firstNo}
 use Rattle.card.specs.declared.checkpoint.Checkpoint.{Checkpoint}
 use Rattle.card.specs.declared.directory.Directory.{Directory}
 use Rattle.frames.specs.Promise.{lent, commonAsks, change, FrameKept, numbered}
-use Rattle.frames.specs.declared.answer.Done.{Done}
 use Rattle.frames.specs.declared.answer.Found.{Found}
 use Rattle.frames.specs.declared.answer.Need.{Need}
 use Rattle.frames.specs.declared.answer.Wrote.{Wrote}
-use Rattle.frames.specs.declared.change.Size.{Size}
+use Rattle.frames.specs.declared.answer.Size.{Size}
 use Rattle.record.specs.Holds.{holdsTogether}
 use Rattle.record.specs.Lists.{cells, once, allWithin}
-use Rattle.record.specs.Meaning.{noteIn, committedOf, stateOf}
+use Rattle.record.specs.Meaning.{notesIn, committedOf, stateOf}
 use Rattle.record.specs.declared.store.Changes.{Changes}
 use Rattle.record.specs.declared.store.Store.{Store}
 use Rattle.recovery.specs.Book.{WholeFrame}
@@ -77,12 +76,6 @@ pendingBytes s f card memory =
 
 abbrev pub newestBytes : Store → ℕ → List ℕ → List ℕ → List ℕ
 newestBytes s f card memory = readFrame (stateOf s memory) card f
-
--- ---- a generation's entries
-
--- in two arrays, of which the first `count` matter
-abbrev pub notesIn : List ℕ → List ℕ → ℕ → List Note
-notesIn frames places count = tabulate (noteIn frames places) 0 count
 
 -- ---- room and change
 
@@ -150,16 +143,29 @@ pub record Changing (s : Store) (memory names bytes : List ℕ) : Type 0 where
   pub home : allWithin (s .geometry .area + 1) (s .geometry .blocks) names ≡ true
   pub bytes-long : length bytes ≡ 512 * length names
 
--- the promise of a change, whatever card the record is lent with
-abbrev pub ChangeKept : Store → List ℕ → List ℕ → List ℕ → Done → List ℕ → Type 0
-ChangeKept s memory names bytes r after = (card : List ℕ) → firstNo (commonAsks s (length memory) (length card)) ≡ 0
-    → FrameKept (change (framesWith names bytes)) (lent s memory card) (numbered (r .answer)) (lent (r .store) after card)
+-- the promise of a change that answers n and leaves the record t, whatever card the record is lent with
+abbrev pub ChangeKept : Store → List ℕ → List ℕ → List ℕ → ℕ → Store → List ℕ → Type 0
+ChangeKept s memory names bytes n t after = (card : List ℕ) → firstNo (commonAsks s (length memory) (length card)) ≡ 0
+    → FrameKept (change (framesWith names bytes)) (lent s memory card) (numbered n) (lent t after card)
 
 -- ---- the pending directory by rising frame
 
 -- the first n elements rise
 abbrev pub Rises : List ℕ → ℕ → Type 0
 Rises l n = (i j : ℕ) → i < j → j < n → getD l i 0 < getD l j 0
+
+-- the first place of n at which more than x stands, or n
+pub record Above (l : List ℕ) (n x i : ℕ) : Type 0 where
+  pub most : i ≤ n
+  pub more : i < n → x < getD l i 0
+  pub before : (j : ℕ) → j < i → getD l j 0 ≤ x
+
+-- of n elements those from the i-th on stand one place higher, and x stands at i
+pub record Inserted (l : List ℕ) (n i x : ℕ) (r : List ℕ) : Type 0 where
+  pub lower : (j : ℕ) → j < i → getD r j 0 ≡ getD l j 0
+  pub here : getD r i 0 ≡ x
+  pub higher : (j : ℕ) → i ≤ j → j < n → getD r (j + 1) 0 ≡ getD l j 0
+  pub long : length r ≡ 256
 
 -- entries in two arrays as a directory, whatever number of places is put down, if it is all of theirs
 pub record Sorted (area first : ℕ) (frames places : List ℕ) (count : ℕ) (d : Directory) : Type 0 where

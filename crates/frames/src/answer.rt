@@ -1,4 +1,5 @@
 // What the calls and their parts hand back.
+use record::store::Changes;
 use record::store::Store;
 
 // Of a call that answers with a number: 0 is done, else it is the number of the question that was answered "no".
@@ -42,4 +43,18 @@ pub struct Found {
 pub struct Need {
     pub places: usize,
     pub entries: usize,
+}
+
+// How many entries a generation has, and how many places are taken.
+#[repr(C)]
+pub struct Size {
+    pub entries: usize,
+    pub places: usize,
+}
+
+// Of a change: its number, and the current generation then.
+#[repr(C)]
+pub struct Changed {
+    pub answer: u32,
+    pub current: Changes,
 }

@@ -46,7 +46,7 @@ fn in_pending(s: Store, frame: u16) -> Found
         return in_committed(s, frame);
     }
     let places = s.pending.places;
-    let place = list::at(&places, i);
+    let place = list::place_at(&places, i);
     if place < s.pending.down {
         let first = place::pending_first(s);
         let to = ring::at(s.geometry.area, first, place);
@@ -73,7 +73,7 @@ fn newest(s: Store, frame: u16) -> Found
         return in_pending(s, frame);
     }
     let places = s.current.places;
-    let place = list::at(&places, i);
+    let place = list::place_at(&places, i);
     if place < s.current.down {
         let first = place::current_first(s);
         let to = ring::at(s.geometry.area, first, place);
@@ -90,16 +90,15 @@ fn newest(s: Store, frame: u16) -> Found
     }
 }
 
-// Fills a buffer with the newest bytes of a frame.
-pub fn load(s: Store, card: &[u8], memory: &[u8], frame: usize, buffer: &mut [u8])
-    requires { ⌜ (firstNo (commonAsks s (length (now memory)) (length (now card))) ≡ 0) × ((frame < s .geometry .blocks) × (length (now buffer) ≡ 512)) ⌝ }
-    ensures { λ _. ⌜ Loads (lent s (now (memory .entry)) (now (card .entry))) frame (now (buffer .exit)) ⌝ }
+// The newest bytes of a frame, as a part of memory or of the card.
+pub fn load<'a>(s: Store, card: &'a [u8], memory: &'a [u8], frame: usize) -> &'a [u8]
+    requires { ⌜ (firstNo (commonAsks s (length (now memory)) (length (now card))) ≡ 0) × (frame < s .geometry .blocks) ⌝ }
+    ensures { λ r. ⌜ Loads (lent s (now (memory .entry)) (now (card .entry))) frame (now r) × (length (now r) ≡ 512) ⌝ }
 {
     let r = newest(s, number::short(frame));
     let at = r.number;
     if r.memory {
-        block::get(memory, at, buffer);
-    } else {
-        block::get(card, at, buffer);
+        return block::at(memory, at);
     }
+    block::at(card, at)
 }

@@ -1,10 +1,13 @@
 // Where things stand: memory frames of the queue, and the first blocks of the stretches.
+use card::block;
 use card::ring;
 use record::hold;
 use record::store::Store;
 ghost use mathlib.Core.Path.{_≡_};
 ghost use mathlib.Core.Bool.{true};
-ghost use Prim.Native.Nat.{_≤_, _<_};
+ghost use Prim.Native.Nat.{_*_, _≤_, _<_};
+ghost use lib.ListN.{length};
+ghost use Rattle.card.specs.Block.{putBlock};
 ghost use Rattle.record.specs.Meaning.{seatAt, pendingFirst, currentFirst};
 ghost use Rattle.record.specs.Holds.{holdsTogether};
 
@@ -18,6 +21,14 @@ pub fn seat(frames: usize, head: usize, i: usize) -> usize
         return n;
     }
     n - frames
+}
+
+// A waiting frame's bytes, into the memory frame of its turn.
+pub fn put(frames: usize, head: usize, memory: &mut [u8], turn: usize, bytes: &[u8])
+    requires { ⌜ (head < frames) × ((turn ≤ frames) × ((frames ≤ 64) × ((length (now memory) ≡ 512 * frames) × (length (now bytes) ≡ 512)))) ⌝ }
+    ensures { λ _. ⌜ now (memory .exit) ≡ putBlock (now (memory .entry)) (seatAt frames head turn) (now (bytes .entry)) ⌝ }
+{
+    block::put(memory, seat(frames, head, turn), bytes);
 }
 
 // The first block of the pending generation.

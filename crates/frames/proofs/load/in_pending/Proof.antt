@@ -16,19 +16,19 @@ returns c =
     let placed = pending-placed (at-start .args .s) (at-start .pre .0) in
     under placed (c .before .before .before .find .ensures) (λ card memory f. committedBytes (at-start .args .s) f card memory) _ (c .before .if1 .taken) (c .in-committed .ensures)
 
-at-requires : tie.Need-at-requires
-at-requires c κs =
+place-at-requires : tie.Need-place-at-requires
+place-at-requires c κs =
     let at-start = c .before .before .before .before .before .before .before in
     let placed = pending-placed (at-start .args .s) (at-start .pre .0) in
     index-in placed (c .before .before .before .before .find .ensures) (c .before .before .if1 .left)
 
-at-requires-2 : tie.Need-at-requires-2
-at-requires-2 c κs =
+at-requires : tie.Need-at-requires
+at-requires c κs =
     let at-start = c .before .before .before .before .before .before .before .before .before .before .before in
     let at-find = c .before .before .before .before .before .before .before .before .find in
     let at-if1 = c .before .before .before .before .before .before .if1 in
     let placed = pending-placed (at-start .args .s) (at-start .pre .0) in
-    ring-in placed (at-find .ensures) (at-if1 .left) (c .before .before .before .at .ensures .0) _ (c .pending-first .ensures)
+    ring-in placed (at-find .ensures) (at-if1 .left) (c .before .before .before .place-at .ensures .0) _ (c .pending-first .ensures)
 
 returns-2 : tie.Need-returns-2
 returns-2 c =
@@ -36,7 +36,7 @@ returns-2 c =
     let at-find = c .before .before .before .before .before .before .before .before .before .find in
     let at-if1 = c .before .before .before .before .before .before .before .if1 in
     let placed = pending-placed (at-start .args .s) (at-start .pre .0) in
-    at-place placed (at-find .ensures) (at-if1 .left) (c .before .before .before .before .at .ensures .0) _ (c .before .pending-first .ensures) (λ card memory f. committedBytes (at-start .args .s) f card memory) _ (c .before .before .if2 .taken) (c .at2 .ensures)
+    at-place placed (at-find .ensures) (at-if1 .left) (c .before .before .before .before .place-at .ensures .0) _ (c .before .pending-first .ensures) (λ card memory f. committedBytes (at-start .args .s) f card memory) _ (c .before .before .if2 .taken) (c .at .ensures)
 
 seat-requires : tie.Need-seat-requires
 seat-requires c κs =
@@ -44,7 +44,7 @@ seat-requires c κs =
     let at-find = c .before .before .before .before .before .before .before .before .find in
     let at-if1 = c .before .before .before .before .before .before .if1 in
     let placed = pending-placed (at-start .args .s) (at-start .pre .0) in
-    (placed .together .head-low, (omega (arith, turn-in placed (at-find .ensures) (at-if1 .left) (c .before .before .before .at .ensures .0) (c .before .if2 .left)), (at-start .pre .1 .1)))
+    (placed .together .head-low, (omega (arith, turn-in placed (at-find .ensures) (at-if1 .left) (c .before .before .before .place-at .ensures .0) (c .before .if2 .left)), (at-start .pre .1 .1)))
 
 returns-3 : tie.Need-returns-3
 returns-3 c =
@@ -52,7 +52,7 @@ returns-3 c =
     let at-find = c .before .before .before .before .before .before .before .before .before .find in
     let at-if1 = c .before .before .before .before .before .before .before .if1 in
     let placed = pending-placed (at-start .args .s) (at-start .pre .0) in
-    at-turn placed (at-find .ensures) (at-if1 .left) (c .before .before .before .before .at .ensures .0) (λ card memory f. committedBytes (at-start .args .s) f card memory) _ (c .before .before .if2 .left) ((c .seat .ensures) ∙ ap (seatAt (at-start .args .s .frames) (at-start .args .s .head)) (sym (zero-add _)))
+    at-turn placed (at-find .ensures) (at-if1 .left) (c .before .before .before .before .place-at .ensures .0) (λ card memory f. committedBytes (at-start .args .s) f card memory) _ (c .before .before .if2 .left) ((c .seat .ensures) ∙ ap (seatAt (at-start .args .s .frames) (at-start .args .s .head)) (sym (zero-add _)))
 
 pub in-pending-spec : {M : Type 1} → statement M
 in-pending-spec =
@@ -61,9 +61,9 @@ in-pending-spec =
     (λ c κs. pending-placed (c .before .before .args .s) (c .before .before .pre .0) .few)
     (λ c κs. search needs)
     returns
-    at-requires
+    place-at-requires
     (λ c κs. search needs)
-    at-requires-2
+    at-requires
     returns-2
     seat-requires
     returns-3)

@@ -16,19 +16,19 @@ returns c =
     let placed = current-placed (at-start .args .s) (at-start .pre .0) in
     under placed (c .before .before .before .find .ensures) (λ card memory f. pendingBytes (at-start .args .s) f card memory) _ (c .before .if1 .taken) (c .in-pending .ensures)
 
-at-requires : tie.Need-at-requires
-at-requires c κs =
+place-at-requires : tie.Need-place-at-requires
+place-at-requires c κs =
     let at-start = c .before .before .before .before .before .before .before in
     let placed = current-placed (at-start .args .s) (at-start .pre .0) in
     index-in placed (c .before .before .before .before .find .ensures) (c .before .before .if1 .left)
 
-at-requires-2 : tie.Need-at-requires-2
-at-requires-2 c κs =
+at-requires : tie.Need-at-requires
+at-requires c κs =
     let at-start = c .before .before .before .before .before .before .before .before .before .before .before in
     let at-find = c .before .before .before .before .before .before .before .before .find in
     let at-if1 = c .before .before .before .before .before .before .if1 in
     let placed = current-placed (at-start .args .s) (at-start .pre .0) in
-    ring-in placed (at-find .ensures) (at-if1 .left) (c .before .before .before .at .ensures .0) _ (c .current-first .ensures)
+    ring-in placed (at-find .ensures) (at-if1 .left) (c .before .before .before .place-at .ensures .0) _ (c .current-first .ensures)
 
 returns-2 : tie.Need-returns-2
 unfolding readFrame
@@ -37,7 +37,7 @@ returns-2 c =
     let at-find = c .before .before .before .before .before .before .before .before .before .find in
     let at-if1 = c .before .before .before .before .before .before .before .if1 in
     let placed = current-placed (at-start .args .s) (at-start .pre .0) in
-    at-place placed (at-find .ensures) (at-if1 .left) (c .before .before .before .before .at .ensures .0) _ (c .before .current-first .ensures) (λ card memory f. pendingBytes (at-start .args .s) f card memory) _ (c .before .before .if2 .taken) (c .at2 .ensures)
+    at-place placed (at-find .ensures) (at-if1 .left) (c .before .before .before .before .place-at .ensures .0) _ (c .before .current-first .ensures) (λ card memory f. pendingBytes (at-start .args .s) f card memory) _ (c .before .before .if2 .taken) (c .at .ensures)
 
 sub-ahead : tie.Need-sub-ahead
 sub-ahead c =
@@ -50,7 +50,7 @@ add-seat c =
     let at-find = c .before .before .before .before .before .before .before .before .before .find in
     let at-if1 = c .before .before .before .before .before .before .before .if1 in
     let placed = current-placed (at-start .args .s) (at-start .pre .0) in
-    omega (arith, turn-in placed (at-find .ensures) (at-if1 .left) (c .before .before .before .before .at .ensures .0) (c .before .before .if2 .left), (at-start .pre .1 .1))
+    omega (arith, turn-in placed (at-find .ensures) (at-if1 .left) (c .before .before .before .before .place-at .ensures .0) (c .before .before .if2 .left), (at-start .pre .1 .1))
 
 seat-requires : tie.Need-seat-requires
 seat-requires c κs =
@@ -58,7 +58,7 @@ seat-requires c κs =
     let at-find = c .before .before .before .before .before .before .before .before .before .find in
     let at-if1 = c .before .before .before .before .before .before .before .if1 in
     let placed = current-placed (at-start .args .s) (at-start .pre .0) in
-    (placed .together .head-low, (omega (arith, turn-in placed (at-find .ensures) (at-if1 .left) (c .before .before .before .before .at .ensures .0) (c .before .before .if2 .left)), (at-start .pre .1 .1)))
+    (placed .together .head-low, (omega (arith, turn-in placed (at-find .ensures) (at-if1 .left) (c .before .before .before .before .place-at .ensures .0) (c .before .before .if2 .left)), (at-start .pre .1 .1)))
 
 returns-3 : tie.Need-returns-3
 unfolding readFrame
@@ -67,7 +67,7 @@ returns-3 c =
     let at-find = c .before .before .before .before .before .before .before .before .before .before .find in
     let at-if1 = c .before .before .before .before .before .before .before .before .if1 in
     let placed = current-placed (at-start .args .s) (at-start .pre .0) in
-    at-turn placed (at-find .ensures) (at-if1 .left) (c .before .before .before .before .before .at .ensures .0) (λ card memory f. pendingBytes (at-start .args .s) f card memory) _ (c .before .before .before .if2 .left) (c .seat .ensures)
+    at-turn placed (at-find .ensures) (at-if1 .left) (c .before .before .before .before .before .place-at .ensures .0) (λ card memory f. pendingBytes (at-start .args .s) f card memory) _ (c .before .before .before .if2 .left) (c .seat .ensures)
 
 pub newest-spec : {M : Type 1} → statement M
 newest-spec =
@@ -76,9 +76,9 @@ newest-spec =
     (λ c κs. current-placed (c .before .before .args .s) (c .before .before .pre .0) .few)
     (λ c κs. search needs)
     returns
-    at-requires
+    place-at-requires
     (λ c κs. search needs)
-    at-requires-2
+    at-requires
     returns-2
     sub-ahead
     add-seat
