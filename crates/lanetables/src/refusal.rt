@@ -85,9 +85,8 @@ pub fn no_such_page() -> u32 {
     let mut card = [0u8; 5632];
     let memory = [0u8; 2048];
     let s = whole_run::begin(&mut card, &memory, 8, 1);
-    let d = pages::key::key(s, &card, &memory, 101);
-    let a = d.answer;
-    number_of_count(a)
+    let c = pages::key::key(s, &card, &memory, 101);
+    number_of_count(c)
 }
 
 // 10
@@ -96,8 +95,7 @@ pub fn old_key() -> u32 {
     let memory = [0u8; 2048];
     let s = whole_run::begin(&mut card, &memory, 8, 1);
     let mut page = [0u8; 512];
-    let d = pages::read::read(s, &card, &memory, 100, 1, &mut page);
-    d.answer
+    pages::read::read(s, &card, &memory, 100, 1, &mut page)
 }
 
 // 11

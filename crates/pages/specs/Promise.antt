@@ -19,6 +19,7 @@ use Rattle.pages.specs.Page.{pageBytes, writeFrames, rescindFrames, form
 use Rattle.pages.specs.declared.answer.Count.{Count}
 use Rattle.pages.specs.declared.answer.Count.the-variants.{Present, Refused}
 use Rattle.pages.specs.declared.named.Named.{Named}
+use Rattle.record.specs.declared.store.Geometry.{Geometry}
 use Rattle.recovery.specs.Contents.{Contents, FrameBytes}
 use Rattle.recovery.specs.Questions.{startAsks, roomAsks, snapshotAsks, pageOutAsks, advanceAsks}
 use Rattle.recovery.specs.State.{readFrame}
@@ -151,13 +152,12 @@ pub record FormatKept (area : ℕ) (numbers before : List ℕ) (a : Answer) (car
 
 -- ---- what the parts of the calls promise
 
--- the number of questions that were asked, with one question more
-abbrev pub followed : ℕ → Question → ℕ
-followed number q = firstNo (ask number (eqb number 0) ∷ q ∷ [])
+-- the place of an OID by a record's ranges
+abbrev pub placeIn : Geometry → ℕ → Lookup
+placeIn g oid = locate (rangesOf (g .ranges) (g .count)) (1 + g .area) oid
 
--- a page that a call names: the number of questions 1 to 3 and 9, and, where that is 0, its place and its pot. Its entry is one of a pot's in any case
-pub record NamedIs (l : Lent) (oid : ℕ) (r : Named) (pot : List ℕ) : Type 0 where
-  pub refusal-is : r .refusal ≡ firstNo (common l ++ placed (addressOf l oid) (λ p. []))
-  pub place-is : r .refusal ≡ 0 → addressOf l oid ≡ Located (r .address)
-  pub pot-is : r .refusal ≡ 0 → pot ≡ presentFrames l (r .address .pot)
+-- a page that a call names by its OID: question 9's number, or 0 and its place. Its entry is one of a pot's in any case
+pub record NamedIs (g : Geometry) (oid : ℕ) (r : Named) : Type 0 where
+  pub refusal-is : r .refusal ≡ firstNo (placed (placeIn g oid) (λ p. []))
+  pub place-is : r .refusal ≡ 0 → placeIn g oid ≡ Located (r .address)
   pub entry-high : r .address .entry < 102

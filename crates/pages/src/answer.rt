@@ -1,5 +1,7 @@
-// What key hands back.
+// What the calls hand back.
+use frames::answer::Done;
 use record::store::Store;
+ghost use mathlib.Core.Path.{_≡_};
 
 // The present count, or the number of the question that was answered "no".
 pub enum Count {
@@ -7,7 +9,12 @@ pub enum Count {
     Refused(u32),
 }
 
-pub struct Counted {
-    pub answer: Count,
-    pub store: Store,
+// A call that is refused, or changes nothing: the record as it was lent.
+pub fn unchanged(s: Store, no: u32) -> Done
+    ensures { λ r. ⌜ (r .answer ≡ no) × (r .store ≡ s) ⌝ }
+{
+    Done {
+        answer: no,
+        store: s,
+    }
 }

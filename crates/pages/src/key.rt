@@ -1,27 +1,26 @@
-// Key: the present count for an OID.
+// Key: the present count for an OID. It changes nothing, and hands back its answer alone.
 use super::answer::Count;
-use super::answer::Counted;
 use super::named;
-use card::block;
 use card::pot;
+use frames::load;
+use frames::question;
 use record::store::Store;
 ghost use Rattle.frames.specs.Promise.{lent};
 ghost use Rattle.pages.specs.Promise.{key, countedAs, Kept};
 
-pub fn key(s: Store, card: &[u8], memory: &[u8], oid: u32) -> Counted
-    ensures { λ r. ⌜ Kept (key oid) (lent s (now (memory .entry)) (now (card .entry))) (countedAs (r .answer)) (lent (r .store) (now (memory .entry)) (now (card .entry))) ⌝ }
+// Card and memory are lent for one lifetime: the pot is a part of either.
+pub fn key<'a>(s: Store, card: &'a [u8], memory: &'a [u8], oid: u32) -> Count
+    ensures { λ r. ⌜ Kept (key oid) (lent s (now (memory .entry)) (now (card .entry))) (countedAs r) (lent s (now (memory .entry)) (now (card .entry))) ⌝ }
 {
-    let mut pot = block::empty();
-    let n = named::find(s, card, memory, oid, &mut pot);
+    let no = question::common(s, memory.len(), card.len());
+    if no != 0 {
+        return Count::Refused(no);
+    }
+    let g = s.geometry;
+    let n = named::find(g, oid);
     if n.refusal != 0 {
-        return Counted {
-            answer: Count::Refused(n.refusal),
-            store: s,
-        };
+        return Count::Refused(n.refusal);
     }
-    let count = pot::count_at(&pot, n.address.entry);
-    Counted {
-        answer: Count::Present(count),
-        store: s,
-    }
+    let pot = load::load(s, card, memory, n.address.pot);
+    Count::Present(pot::count_at(pot, n.address.entry))
 }

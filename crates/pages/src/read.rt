@@ -1,31 +1,43 @@
-// Read: a page's bytes into a buffer of 512.
+// Read: a page's bytes into a buffer of 512. It changes nothing else, and hands back its number alone.
 use super::named;
 use card::block;
-use frames::answer::Done;
 use frames::load;
+use frames::question;
 use record::store::Store;
 ghost use Rattle.frames.specs.Promise.{lent};
 ghost use Rattle.pages.specs.Promise.{read, filled, Kept};
 
-// One way out: each further one copies the record.
-pub fn read(s: Store, card: &[u8], memory: &[u8], oid: u32, count: u32, buffer: &mut [u8]) -> Done
-    ensures { λ r. ⌜ Kept (read oid count (now (buffer .entry))) (lent s (now (memory .entry)) (now (card .entry))) (filled (r .answer) (now (buffer .exit)))
-        (lent (r .store) (now (memory .entry)) (now (card .entry))) ⌝ }
+// Card and memory are lent for one lifetime: pot and page are parts of either.
+pub fn read<'a>(
+    s: Store,
+    card: &'a [u8],
+    memory: &'a [u8],
+    oid: u32,
+    count: u32,
+    buffer: &mut [u8],
+) -> u32
+    ensures { λ r. ⌜ Kept (read oid count (now (buffer .entry))) (lent s (now (memory .entry)) (now (card .entry))) (filled r (now (buffer .exit)))
+        (lent s (now (memory .entry)) (now (card .entry))) ⌝ }
 {
-    let mut pot = block::empty();
-    let n = named::find(s, card, memory, oid, &mut pot);
-    let checked = named::check(n, &pot, count);
-    let no = named::ask(checked, 11, buffer.len() == 512);
-    if no == 0 {
-        if named::is_zero(&pot, n.address.entry) {
-            let empty = block::empty();
-            bytes::copy(&empty, buffer);
-        } else {
-            load::load(s, card, memory, n.address.page, buffer);
-        }
+    let common = question::common(s, memory.len(), card.len());
+    if common != 0 {
+        return common;
     }
-    Done {
-        answer: no,
-        store: s,
+    let g = s.geometry;
+    let n = named::find(g, oid);
+    if n.refusal != 0 {
+        return n.refusal;
     }
+    let pot = load::load(s, card, memory, n.address.pot);
+    let no = named::check(pot, n.address.entry, count, 11, buffer.len() == 512);
+    if no != 0 {
+        return no;
+    }
+    if named::is_zero(pot, n.address.entry) {
+        let empty = block::empty();
+        bytes::copy(&empty, buffer);
+        return 0;
+    }
+    bytes::copy(load::load(s, card, memory, n.address.page), buffer);
+    0
 }

@@ -1,10 +1,13 @@
 // Rescind: the count rises by 1 and the flag is set, so that no key made before fits. Only the pot changes.
+use super::answer;
 use super::named;
 use card::block;
 use card::number;
 use card::pot;
 use frames::answer::Done;
 use frames::change;
+use frames::load;
+use frames::question;
 use record::store::Store;
 ghost use mathlib.Core.Path.{_≡_};
 ghost use Prim.Native.Nat.{_<_};
@@ -29,17 +32,22 @@ pub fn rescind(s: Store, card: &[u8], memory: &mut [u8], oid: u32, count: u32) -
     ensures { λ r. ⌜ Kept (rescind oid count) (lent s (now (memory .entry)) (now (card .entry))) (answered (numbered (r .answer)))
         (lent (r .store) (now (memory .exit)) (now (card .entry))) ⌝ }
 {
-    let mut pot = block::empty();
-    let n = named::find(s, card, memory, oid, &mut pot);
-    let checked = named::check(n, &pot, count);
-    let no = named::ask(checked, 15, count < 4294967295);
-    if no != 0 {
-        return Done {
-            answer: no,
-            store: s,
-        };
+    let common = question::common(s, memory.len(), card.len());
+    if common != 0 {
+        return answer::unchanged(s, common);
     }
+    let g = s.geometry;
+    let n = named::find(g, oid);
+    if n.refusal != 0 {
+        return answer::unchanged(s, n.refusal);
+    }
+    let found = load::load(s, card, memory, n.address.pot);
+    let no = named::check(found, n.address.entry, count, 15, count < 4294967295);
+    if no != 0 {
+        return answer::unchanged(s, no);
+    }
+    let mut pot = block::array(found);
     raise(&mut pot, n.address.entry);
     let names = [number::short(n.address.pot)];
-    change::change(s, memory, &names, &pot)
+    change::put(s, change::change(s, memory, &names, &pot))
 }

@@ -1,4 +1,5 @@
 // Write: lent bytes at an offset of a page. The page changes first, then, if its flag was set, its pot.
+use super::answer;
 use super::named;
 use card::block;
 use card::number;
@@ -6,6 +7,7 @@ use card::pot;
 use frames::answer::Done;
 use frames::change;
 use frames::load;
+use frames::question;
 use record::store::Store;
 ghost use mathlib.Core.Path.{_≡_};
 ghost use mathlib.Core.List.{_++_};
@@ -68,26 +70,31 @@ pub fn write(
     ensures { λ r. ⌜ Kept (write oid count at (now (new .entry))) (lent s (now (memory .entry)) (now (card .entry))) (answered (numbered (r .answer)))
         (lent (r .store) (now (memory .exit)) (now (card .entry))) ⌝ }
 {
-    let mut pot = block::empty();
-    let n = named::find(s, card, memory, oid, &mut pot);
-    let checked = named::check(n, &pot, count);
-    let no = named::ask(checked, 11, fits(at, new.len()));
-    if no != 0 || new.len() == 0 {
-        return Done {
-            answer: no,
-            store: s,
-        };
+    let common = question::common(s, memory.len(), card.len());
+    if common != 0 {
+        return answer::unchanged(s, common);
     }
-    if named::is_zero(&pot, n.address.entry) {
-        clear(&mut pot, n.address.entry);
+    let g = s.geometry;
+    let n = named::find(g, oid);
+    if n.refusal != 0 {
+        return answer::unchanged(s, n.refusal);
+    }
+    let pot = load::load(s, card, memory, n.address.pot);
+    let no = named::check(pot, n.address.entry, count, 11, fits(at, new.len()));
+    if no != 0 || new.len() == 0 {
+        return answer::unchanged(s, no);
+    }
+    if named::is_zero(pot, n.address.entry) {
+        let mut cleared = block::array(pot);
+        clear(&mut cleared, n.address.entry);
         let mut both = [0u8; 1024];
-        lay(&mut both, at, new, &pot);
+        lay(&mut both, at, new, &cleared);
         let names = [number::short(n.address.page), number::short(n.address.pot)];
-        return change::change(s, memory, &names, &both);
+        return change::put(s, change::change(s, memory, &names, &both));
     }
     let mut page = block::empty();
-    load::load(s, card, memory, n.address.page, &mut page);
+    bytes::copy(load::load(s, card, memory, n.address.page), &mut page);
     patch(&mut page, at, new);
     let names = [number::short(n.address.page)];
-    change::change(s, memory, &names, &page)
+    change::put(s, change::change(s, memory, &names, &page))
 }

@@ -1,70 +1,79 @@
 -- `pages::read::read` meets its contract.
 -- Assumes nothing.
 use borrow.Author.Needs.{needs}
+use borrow.Author.Tests.{eqb-true}
+use denote.Ref.{now}
+use lib.Dec.{eqb}
 use lib.ListN.{length}
+use mathlib.Core.List.{[]}
 use mathlib.Core.Path.{_≡_, sym, _∙_}
 use native.Mathlib.Omega.{arith}
 use Rattle.card.proofs.BytesLaws.{copied}
-use Rattle.pages.proofs.CallLaws.{readable, read-refused, read-named, read-long, read-done}
-use Rattle.pages.proofs.NamedLaws.{page-full, page-empty}
+use Rattle.card.specs.Question.{firstNo}
+use Rattle.frames.specs.Promise.{Lent, lent, common}
+use Rattle.pages.proofs.CallLaws.{read-refused, read-done}
+use Rattle.pages.proofs.NamedLaws.{searchable, Found, page-readable, pot-readable, page-full, page-empty, common-stops, place-stops, Keyed, key-stops, key-passes}
 use Rattle.pages.proofs.read.read.Statement.{statement}
 use Rattle.pages.proofs.read.read.Tie as tie
 
--- ---- where the questions are passed
+-- ---- the questions
 
-named : (c : tie.Then1) → c .before .before .before .before .before .find .result .refusal ≡ 0
-named c = read-named _ _ _ (c .before .before .before .before .before .before .before .before .before .before .before .args .buffer .now) _ _ (c .before .before .before .before .before .find .ensures) (c .before .before .check .ensures) (c .before .ask .ensures) (c .if1 .taken)
+abbrev lent-to : tie.Start → Lent
+lent-to c = lent (c .args .s) (c .args .memory .now) (c .args .card .now)
 
-long : (c : tie.Then1) → length (c .before .before .before .before .before .before .before .before .before .before .before .args .buffer .now) ≡ 512
-long c = read-long _ _ _ (c .before .before .before .before .before .before .before .before .before .before .before .args .buffer .now) _ _ (c .before .before .before .before .before .find .ensures) (c .before .before .check .ensures) (c .before .ask .ensures) (c .if1 .taken)
+passed : (c : tie.Else1) → firstNo (common (lent-to (c .before .before .before .before .before))) ≡ 0
+passed c = sym (c .before .common .ensures) ∙ c .if1 .left
 
-copy-requires : tie.Need-copy-requires
-copy-requires c κs =
-    let at-empty = c .before .before .empty2 in
-    let empty : length (at-empty .result) ≡ 512 = search (at-empty .ok) in
-    omega (arith, long (c .before .before .before .before .before .before), empty)
+found : (c : tie.Else2) → Found (lent-to (c .before .before .before .before .before .before .before .before .before)) (c .before .before .before .before .before .before .before .before .before .args .oid) (c .before .before .find .result .address)
+found c = record { passed = passed (c .before .before .before .before); place-is = c .before .before .find .ensures .place-is (c .if2 .left) }
 
-load-requires : tie.Need-load-requires
-load-requires c κs =
-    let at-if1 = c .before .before .before .before in
-    let r = readable _ _ _ _ (at-if1 .before .before .before .before .before .find .ensures) (named at-if1) in
-    (r .0, (r .1, long at-if1))
+abbrev begun : tie.Else3 → tie.Start
+begun c = c .before .before .before .before .before .before .before .before .before .before .before .before
 
--- zeros
-returns : tie.Need-returns
-returns c =
-    let at-if1 = c .before .before .before .before .before .before .before .before .before in
-    let at-find = at-if1 .before .before .before .before .before .find in
-    let at-empty = c .before .before .before .before .before .empty2 in
-    let empty : length (at-empty .result) ≡ 512 = search (at-empty .ok) in
-    let is = page-empty _ _ _ (at-find .ensures .pot-is (named at-if1)) (sym (c .before .before .before .before .before .before .before .is-zero .ensures) ∙ c .before .before .before .before .before .before .if2 .taken) in
-    read-done _ _ _ _ _ _ (at-find .ensures) (at-if1 .before .before .check .ensures) (at-if1 .before .ask .ensures) (at-if1 .if1 .taken)
-    (copied (at-empty .result) _ _ (omega (arith, long at-if1, empty)) (c .before .before .copy .ensures .1) ∙ at-empty .ensures ∙ sym is)
+keyed : (c : tie.Else3)
+    → Keyed (lent-to (begun c)) (begun c .args .oid) (begun c .args .count) (c .before .before .before .before .before .find .result .address) (now (c .before .before .load .result)) (eqb (length (begun c .args .buffer .now)) 512)
+keyed c = key-passes _ _ _ _ (found (c .before .before .before)) _ (c .before .before .load .ensures .0) 10 _ (c .before .check .ensures) (c .if3 .left)
 
--- the page's frame
-returns-2 : tie.Need-returns-2
-returns-2 c =
-    let at-if1 = c .before .before .before .before .before .before .before in
-    let at-find = at-if1 .before .before .before .before .before .find in
-    let is = page-full _ _ _ (at-find .ensures .pot-is (named at-if1)) (sym (c .before .before .before .before .before .is-zero .ensures) ∙ c .before .before .before .before .if2 .left) in
-    read-done _ _ _ _ _ _ (at-find .ensures) (at-if1 .before .before .check .ensures) (at-if1 .before .ask .ensures) (at-if1 .if1 .taken) (c .before .before .load .ensures ∙ sym is)
+long : (c : tie.Else3) → length (begun c .args .buffer .now) ≡ 512
+long c = eqb-true _ 512 (keyed c .own-is)
+
+-- ---- the flag is set: zeros
+
+empty-long : (c : tie.After-empty) → length (c .empty .result) ≡ 512
+empty-long c = search (c .empty .ok)
+
+returns-4 : tie.Need-returns-4
+returns-4 c =
+    let k = keyed (c .before .before .before .before .before .before .before .before) in
+    let is = page-empty _ _ _ (k .pot-is) (sym (c .before .before .before .before .before .before .before .is-zero .ensures) ∙ c .before .before .before .before .before .before .if4 .taken) in
+    read-done _ _ _ _ _ _ k (copied (c .before .before .before .before .before .empty .result) _ _ (omega (arith, long (c .before .before .before .before .before .before .before .before), empty-long (c .before .before .before .before .before))) (c .before .before .copy .ensures .1) ∙ c .before .before .before .before .before .empty .ensures ∙ sym is)
+
+-- ---- it is clear: the page's frame
+
+returns-5 : tie.Need-returns-5
+returns-5 c =
+    let k = keyed (c .before .before .before .before .before .before .before) in
+    let is = page-full _ _ _ (k .pot-is) (sym (c .before .before .before .before .before .before .is-zero .ensures) ∙ c .before .before .before .before .before .if4 .left) in
+    read-done _ _ _ _ _ _ k (copied _ _ _ (omega (arith, long (c .before .before .before .before .before .before .before), c .before .before .before .before .load2 .ensures .1)) (c .before .before .copy2 .ensures .1) ∙ c .before .before .before .before .load2 .ensures .0 ∙ sym is)
 
 pub read-spec : {M : Type 1} → statement M
 read-spec =
     tie.close
     (tie.spec
     (λ c κs. search needs)
+    (λ c. read-refused _ _ _ _ (common-stops _ _ _ (c .before .common .ensures) (c .if1 .taken)))
+    (λ c κs. searchable (lent-to (c .before .before .before .before .before .before)) (passed (c .before)))
+    (λ c. read-refused _ _ _ _ (place-stops _ _ _ (passed (c .before .before .before .before)) (c .before .before .find .ensures) (c .if2 .taken)))
+    (λ c κs. pot-readable _ _ _ (found c))
+    (λ c κs. search needs)
+    (λ c. read-refused _ _ _ _ (key-stops _ _ _ _ (found (c .before .before .before)) _ (c .before .before .load .ensures .0) 10 _ (c .before .check .ensures) (λ p. []) (c .if3 .taken)))
+    (λ c κs. search needs)
+    (λ c κs. search needs)
     (λ c. search needs)
-    (λ c κs. search needs)
-    (λ c κs. search needs)
-    (λ c κs. search needs)
-    (λ c κs. search needs)
-    (λ c κs. search needs)
+    (λ c κs. omega (arith, long (c .before .before .before .before .before), empty-long (c .before .before)))
     (λ c. search needs)
-    copy-requires
-    load-requires
+    returns-4
+    (λ c κs. page-readable _ _ _ (found (c .before .before .before .before .before)))
+    (λ c κs. omega (arith, long (c .before .before .before .before), c .before .load2 .ensures .1))
     (λ c. search needs)
-    returns
-    (λ c. search needs)
-    returns-2
-    (λ c. read-refused _ _ _ _ _ _ (c .before .before .before .before .before .find .ensures) (c .before .before .check .ensures) (c .before .ask .ensures) (c .if1 .left)))
+    returns-5)

@@ -1,8 +1,9 @@
 -- `pages::write::write` meets its contract.
 -- Assumes nothing.
-use Prim.Native.Nat.{ℕ, _+_, _≤_, _<_}
+use Prim.Native.Nat.{ℕ, _+_, _≤_}
 use borrow.Author.Needs.{needs}
-use borrow.Author.Tests.{eqb-true, eqb-false}
+use borrow.Author.Tests.{eqb-true, eqb-false, leb-true}
+use denote.Ref.{now}
 use lib.Dec.{leb}
 use lib.ListN.{length}
 use mathlib.Core.Bool.{Bool}
@@ -10,61 +11,65 @@ use mathlib.Core.List.{List}
 use mathlib.Core.Logic.{⊎-elim}
 use mathlib.Core.Path.{_≡_, ap, sym, _∙_}
 use native.Mathlib.Omega.{arith}
-use Rattle.card.proofs.BytesLaws.{patch-length, zeros-length}
+use Rattle.card.proofs.BytesLaws.{copied, patch-length, zeros-length}
 use Rattle.card.specs.Bytes.{patch, zeros}
-use Rattle.card.specs.Question.{ask}
-use Rattle.pages.proofs.CallLaws.{readable, small, page-changing, both-changing, write-refused, write-named, write-fits, write-nothing, write-page, write-both}
-use Rattle.pages.proofs.NamedLaws.{page-full, page-empty}
-use Rattle.pages.specs.Promise.{followed}
+use Rattle.card.specs.Pot.{countAt, flagsAt, putFlags, clearZero}
+use Rattle.card.specs.Question.{firstNo}
+use Rattle.frames.specs.Promise.{Lent, lent, common}
+use Rattle.pages.proofs.CallLaws.{write-refused, write-nothing, write-page, write-both}
+use Rattle.pages.proofs.NamedLaws.{searchable, Found, page-readable, pot-readable, small, page-changing, both-changing, page-full, page-empty, common-stops, place-stops, keyAsks, Keyed, key-stops, key-passes}
 use Rattle.pages.proofs.write.write.Statement.{statement}
 use Rattle.pages.proofs.write.write.Tie as tie
 
 -- ---- the questions
 
-abbrev begun : tie.After-ask → tie.Start
-begun c = c .before .before .before .before .before .before .before .before .before .before .before .before
+abbrev lent-to : tie.Start → Lent
+lent-to c = lent (c .args .s) (c .args .memory .now) (c .args .card .now)
 
-abbrev at-of : tie.After-ask → ℕ
-at-of c = begun c .args .at
+-- where the new bytes end
+abbrev end : tie.Start → ℕ
+end c = c .args .at + length (c .args .new .now)
 
-abbrev new-of : tie.After-ask → List ℕ
-new-of c = begun c .args .new .now
+passed : (c : tie.Else1) → firstNo (common (lent-to (c .before .before .before .before .before))) ≡ 0
+passed c = sym (c .before .common .ensures) ∙ c .if1 .left
 
-asked : (c : tie.After-ask) → c .ask .result ≡ followed (c .before .before .check .result) (ask 11 (leb (at-of c + length (new-of c)) 512))
-asked c = c .ask .ensures ∙ ap (λ (t : Bool). followed (c .before .before .check .result) (ask 11 t)) (c .before .fits2 .ensures)
+found : (c : tie.Else2) → Found (lent-to (c .before .before .before .before .before .before .before .before .before)) (c .before .before .before .before .before .before .before .before .before .args .oid) (c .before .before .find .result .address)
+found c = record { passed = passed (c .before .before .before .before); place-is = c .before .before .find .ensures .place-is (c .if2 .left) }
+
+abbrev begun : tie.After-check → tie.Start
+begun c = c .before .before .before .before .before .before .before .before .before .before .before .before .before
+
+-- the number of 10, and of 11 by a test
+abbrev numberBy : tie.After-check → Bool → ℕ
+numberBy c t = firstNo (keyAsks (countAt (now (c .before .before .load .result)) (c .before .before .before .before .before .before .find .result .address .entry)) (begun c .args .count) 11 t)
+
+asked : (c : tie.After-check) → c .check .result ≡ numberBy c (leb (end (begun c)) 512)
+asked c = c .check .ensures ∙ ap (numberBy c) (c .before .fits2 .ensures)
+
+keyed : (c : tie.After-check) → c .check .result ≡ 0
+    → Keyed (lent-to (begun c)) (begun c .args .oid) (begun c .args .count) (c .before .before .before .before .before .before .find .result .address) (now (c .before .before .load .result)) (leb (end (begun c)) 512)
+keyed c z = key-passes _ _ _ _ (found (c .before .before .before .before)) _ (c .before .before .load .ensures .0) 10 _ (asked c) z
 
 -- refused, or no bytes
-returns : tie.Need-returns
-returns c =
-    let at-find = c .before .before .before .before .before .before .find in
-    let at-check = c .before .before .before .check in
+returns-3 : tie.Need-returns-3
+returns-3 c =
     ⊎-elim
-    (λ h. write-refused _ _ _ _ (new-of (c .before)) _ _ (at-find .ensures) (at-check .ensures) (asked (c .before)) (h .taken))
-    (λ h. write-nothing _ _ _ _ (new-of (c .before)) _ _ (at-find .ensures) (at-check .ensures) (asked (c .before)) (h .0 .left) (eqb-true _ 0 (h .1 .taken)))
-    (c .if1 .came)
+    (λ h. write-refused _ _ _ _ _ (key-stops _ _ _ _ (found (c .before .before .before .before .before .before)) _ (c .before .before .before .before .load .ensures .0) 10 _ (asked (c .before .before)) _ (h .taken)) (c .unchanged3 .ensures))
+    (λ h. write-nothing _ _ _ _ _ _ _ (keyed (c .before .before) (h .0 .left)) (eqb-true _ 0 (h .1 .taken)) (h .0 .left) (c .unchanged3 .ensures))
+    (c .before .if3 .came)
 
 -- ---- passed, with bytes to write
 
-named : (c : tie.Else2) → c .before .before .before .before .before .before .before .find .result .refusal ≡ 0
-named c =
-    let at-find = c .before .before .before .before .before .before .before .find in
-    write-named _ _ _ _ (new-of (c .before .before)) _ _ (at-find .ensures) (c .before .before .before .before .check .ensures) (asked (c .before .before)) (c .before .if1 .left)
-
-fits : (c : tie.Else2) → at-of (c .before .before) + length (new-of (c .before .before)) ≤ 512
-fits c =
-    let at-find = c .before .before .before .before .before .before .before .find in
-    write-fits _ _ _ _ (new-of (c .before .before)) _ _ (at-find .ensures) (c .before .before .before .before .check .ensures) (asked (c .before .before)) (c .before .if1 .left)
-
-frames-small : (c : tie.Else2) → (c .before .before .before .before .before .before .before .find .result .address .page < 65536) × (c .before .before .before .before .before .before .before .find .result .address .pot < 65536)
-frames-small c = small _ _ _ _ (c .before .before .before .before .before .before .before .find .ensures) (named c)
+fits : (c : tie.Else4) → end (begun (c .before .before)) ≤ 512
+fits c = leb-true _ 512 (keyed (c .before .before) (c .before .if3 .left) .own-is)
 
 -- a page with the new bytes
-abbrev written : tie.Else2 → List ℕ → List ℕ
-written c page = patch page (at-of (c .before .before)) (new-of (c .before .before))
+abbrev written : tie.Else4 → List ℕ → List ℕ
+written c page = patch page (begun (c .before .before) .args .at) (begun (c .before .before) .args .new .now)
 
 -- ---- the flag is set: the page on zeros, and its pot
 
-fresh-long : (c : tie.Else2) → length (written c zeros) ≡ 512
+fresh-long : (c : tie.Else4) → length (written c zeros) ≡ 512
 fresh-long c = patch-length zeros _ _ (omega (arith, fits c, zeros-length)) ∙ zeros-length
 
 cleared-long : (c : tie.After-clear) → length (c .clear .last .0) ≡ 512
@@ -72,95 +77,87 @@ cleared-long c = search needs
 
 change-requires : tie.Need-change-requires
 change-requires c κs =
-    let at-if2 = c .before .before .before .before .before .before .before .before .before .before .before .before .before .before .before in
+    let at-if4 = c .before .before .before .before .before .before .before .before .before .before .before .before .before .before .before in
     let at-clear = c .before .before .before .before .before .before .before .before .before .before in
-    let at-lay = c .before .before .before .before .before .before .lay in
-    both-changing _ _ _ _ (at-if2 .before .before .before .before .before .before .before .find .ensures) (named at-if2)
-    (c .before .before .before .before .short .ensures) (c .before .before .before .short2 .ensures)
-    (written at-if2 zeros) (at-clear .clear .last .0) (fresh-long at-if2) (cleared-long at-clear) (at-lay .ensures)
+    both-changing _ _ _ (found (at-if4 .before .before .before .before .before .before)) (c .before .before .before .before .short .ensures) (c .before .before .before .short2 .ensures) (written at-if4 zeros) (at-clear .clear .last .0)
+    (fresh-long at-if4) (cleared-long at-clear) (c .before .before .before .before .before .before .lay .ensures)
 
-returns-2 : tie.Need-returns-2
-returns-2 c =
-    let at-if2 = c .before .before .before .before .before .before .before .before .before .before .before .before .before .before .before .before .before .before in
-    let at-find = at-if2 .before .before .before .before .before .before .before .find in
-    let at-is-zero = c .before .before .before .before .before .before .before .before .before .before .before .before .before .before .before .before .is-zero in
-    let at-if3 = c .before .before .before .before .before .before .before .before .before .before .before .before .before .before .before .if3 in
-    let at-clear = c .before .before .before .before .before .before .before .before .before .before .before .before .before in
-    let at-lay = c .before .before .before .before .before .before .before .before .before .lay in
-    let at-narrow = c .before .before .before .before .before .before .before .short in
-    let flag = sym (at-is-zero .ensures) ∙ at-if3 .taken in
-    let page-is = ap (written at-if2) (sym (page-empty _ _ _ (at-find .ensures .pot-is (named at-if2)) flag)) in
-    write-both _ _ _ _ (new-of (at-if2 .before .before)) _ _ (at-find .ensures) (at-if2 .before .before .before .before .check .ensures) (asked (at-if2 .before .before)) (at-if2 .before .if1 .left)
-    (eqb-false _ 0 (at-if2 .if2 .left)) (written at-if2 zeros) (fresh-long at-if2) page-is _ flag
-    (at-clear .clear .last .0) (cleared-long at-clear) (at-clear .clear .ensures)
-    (at-narrow .ensures) (c .before .before .before .before .before .before .short2 .ensures) (at-lay .ensures) (c .before .before .change .ensures)
+returns-4 : tie.Need-returns-4
+returns-4 c =
+    let at-if4 = c .before .before .before .before .before .before .before .before .before .before .before .before .before .before .before .before .before .before .before in
+    let entry = at-if4 .before .before .before .before .before .before .before .before .find .result .address .entry in
+    let k = keyed (at-if4 .before .before) (at-if4 .before .if3 .left) in
+    let at-clear = c .before .before .before .before .before .before .before .before .before .before .before .before .before .before in
+    let flag = sym (c .before .before .before .before .before .before .before .before .before .before .before .before .before .before .before .before .before .before .is-zero .ensures) ∙ c .before .before .before .before .before .before .before .before .before .before .before .before .before .before .before .before .before .if5 .taken in
+    let page-is = ap (written at-if4) (sym (page-empty _ _ _ (k .pot-is) flag)) in
+    let pot-is = at-clear .clear .ensures ∙ ap (λ (x : List ℕ). putFlags x entry (clearZero (flagsAt x entry))) (at-clear .before .before .array .ensures) in
+    write-both _ _ _ _ (begun (at-if4 .before .before) .args .new .now) _ _ k (eqb-false _ 0 (at-if4 .if4 .left)) (written at-if4 zeros) (fresh-long at-if4) page-is (c .put .ensures) flag
+    (at-clear .clear .last .0) (cleared-long at-clear) pot-is (c .before .before .before .before .before .before .before .before .short .ensures) (c .before .before .before .before .before .before .before .short2 .ensures) (c .before .before .before .before .before .before .before .before .before .before .lay .ensures) (c .before .before .before .change .ensures)
 
--- ---- the flag is clear: the page alone
+-- ---- it is clear: the page alone
 
-load-requires : tie.Need-load-requires
-load-requires c κs =
-    let at-if2 = c .before .before .before .before .before .before in
-    let r = readable _ _ _ _ (at-if2 .before .before .before .before .before .before .before .find .ensures) (named at-if2) in
-    (r .0, (r .1, search needs))
+loaded : (c : tie.After-copy) → c .copy .last .1 .0 ≡ now (c .before .before .load2 .result)
+loaded c =
+    let at-empty = c .before .before .before .before .empty in
+    let long : length (at-empty .result) ≡ 512 = search (at-empty .ok) in
+    copied (now (c .before .before .load2 .result)) (at-empty .result) _ (omega (arith, c .before .before .load2 .ensures .1, long)) (c .copy .ensures .1)
 
-loaded-long : (c : tie.After-load) → length (c .load .last .1 .1 .1 .1 .0) ≡ 512
-loaded-long c = search needs
+loaded-long : (c : tie.After-copy) → length (c .copy .last .1 .0) ≡ 512
+loaded-long c = ap length (loaded c) ∙ c .before .before .load2 .ensures .1
 
 patched-long : (c : tie.After-patch) → length (c .patch .last .0) ≡ 512
 patched-long c = search needs
 
-change-requires-2 : tie.Need-change-requires-2
-change-requires-2 c κs =
-    let at-if2 = c .before .before .before .before .before .before .before .before .before .before .before .before .before .before .before in
-    let at-patch = c .before .before .before .before .before in
-    page-changing _ _ _ _ (at-if2 .before .before .before .before .before .before .before .find .ensures) (named at-if2) (c .before .before .before .short3 .ensures) _ (patched-long at-patch)
-
-returns-3 : tie.Need-returns-3
-returns-3 c =
-    let at-if2 = c .before .before .before .before .before .before .before .before .before .before .before .before .before .before .before .before .before .before in
-    let at-find = at-if2 .before .before .before .before .before .before .before .find in
-    let at-is-zero = c .before .before .before .before .before .before .before .before .before .before .before .before .before .before .before .before .is-zero in
-    let at-if3 = c .before .before .before .before .before .before .before .before .before .before .before .before .before .before .before .if3 in
-    let at-load = c .before .before .before .before .before .before .before .before .before .before .before .load in
-    let at-patch = c .before .before .before .before .before .before .before .before in
-    let flag = sym (at-is-zero .ensures) ∙ at-if3 .left in
-    let page-is = at-load .ensures ∙ sym (page-full _ _ _ (at-find .ensures .pot-is (named at-if2)) flag) in
-    write-page _ _ _ _ (new-of (at-if2 .before .before)) _ _ (at-find .ensures) (at-if2 .before .before .before .before .check .ensures) (asked (at-if2 .before .before)) (at-if2 .before .if1 .left)
-    (eqb-false _ 0 (at-if2 .if2 .left)) _ (patched-long at-patch) (at-patch .patch .ensures ∙ ap (written at-if2) page-is) _ flag
-    (c .before .before .before .before .before .before .short3 .ensures) (c .before .before .change2 .ensures)
+returns-5 : tie.Need-returns-5
+returns-5 c =
+    let at-if4 = c .before .before .before .before .before .before .before .before .before .before .before .before .before .before .before .before .before .before .before in
+    let at-patch = c .before .before .before .before .before .before .before .before .before in
+    let k = keyed (at-if4 .before .before) (at-if4 .before .if3 .left) in
+    let flag = sym (c .before .before .before .before .before .before .before .before .before .before .before .before .before .before .before .before .before .before .is-zero .ensures) ∙ c .before .before .before .before .before .before .before .before .before .before .before .before .before .before .before .before .before .if5 .left in
+    let page-is = loaded (c .before .before .before .before .before .before .before .before .before .before .before .before) ∙ c .before .before .before .before .before .before .before .before .before .before .before .before .before .before .load2 .ensures .0 ∙ sym (page-full _ _ _ (k .pot-is) flag) in
+    write-page _ _ _ _ (begun (at-if4 .before .before) .args .new .now) _ _ k (eqb-false _ 0 (at-if4 .if4 .left)) _ (patched-long at-patch) (at-patch .patch .ensures ∙ ap (written at-if4) page-is) (c .put2 .ensures) flag
+    (c .before .before .before .before .before .before .before .short3 .ensures) (c .before .before .before .change2 .ensures)
 
 pub write-spec : {M : Type 1} → statement M
 write-spec =
     tie.close
     (tie.spec
     (λ c κs. search needs)
+    (λ c κs. search needs)
+    (λ c. write-refused _ _ _ _ _ (common-stops _ _ _ (c .before .before .common .ensures) (c .before .if1 .taken)) (c .unchanged .ensures))
+    (λ c κs. searchable (lent-to (c .before .before .before .before .before .before)) (passed (c .before)))
+    (λ c κs. search needs)
+    (λ c. write-refused _ _ _ _ _ (place-stops _ _ _ (passed (c .before .before .before .before .before)) (c .before .before .before .find .ensures) (c .before .if2 .taken)) (c .unchanged2 .ensures))
+    (λ c κs. pot-readable _ _ _ (found (c .before)))
+    (λ c κs. search needs)
+    (λ c κs. search needs)
+    (λ c κs. search needs)
     (λ c. search needs)
+    returns-3
     (λ c κs. search needs)
-    (λ c κs. search needs)
-    (λ c κs. search needs)
-    (λ c κs. search needs)
-    (λ c. search needs)
-    returns
     (λ c κs. search needs)
     (λ c. search needs)
     (λ c κs. search needs)
     (λ c. search needs)
     (λ c κs. (search needs, fits (c .before .before .before .before .before .before .before .before)))
-    (λ c κs. omega (arith, frames-small (c .before .before .before .before .before .before .before .before .before .before) .0))
-    (λ c κs. omega (arith, frames-small (c .before .before .before .before .before .before .before .before .before .before .before) .1))
+    (λ c κs. omega (arith, small _ _ _ (found (c .before .before .before .before .before .before .before .before .before .before .before .before .before .before .before .before)) .0))
+    (λ c κs. omega (arith, small _ _ _ (found (c .before .before .before .before .before .before .before .before .before .before .before .before .before .before .before .before .before)) .1))
     (λ c. search needs)
     (λ c. search needs)
     change-requires
-    (λ c. search needs)
-    returns-2
     (λ c κs. search needs)
     (λ c. search needs)
-    load-requires
+    returns-4
+    (λ c κs. search needs)
+    (λ c κs. page-readable _ _ _ (found (c .before .before .before .before .before .before .before .before .before .before)))
+    (λ c. search needs)
+    (λ c κs. search needs)
     (λ c. search needs)
     (λ c κs. omega (arith, fits (c .before .before .before .before .before .before .before .before .before), loaded-long (c .before .before)))
-    (λ c κs. omega (arith, frames-small (c .before .before .before .before .before .before .before .before .before .before .before) .0))
+    (λ c κs. omega (arith, small _ _ _ (found (c .before .before .before .before .before .before .before .before .before .before .before .before .before .before .before .before .before)) .0))
     (λ c. search needs)
     (λ c. search needs)
-    change-requires-2
+    (λ c κs. page-changing _ _ _ (found (c .before .before .before .before .before .before .before .before .before .before .before .before .before .before .before .before .before .before .before .before .before)) (c .before .before .before .short3 .ensures) _ (patched-long (c .before .before .before .before .before)))
+    (λ c κs. search needs)
     (λ c. search needs)
-    returns-3)
+    returns-5)
