@@ -1,3 +1,4 @@
--- Laws of answers in numbers, and the two demands of the linked calls.
+-- Laws of answers in numbers, the structs that the calls answer with, and the two demands of the linked calls.
+pub mod Answers
 pub mod NumberLaws
 pub mod Demands

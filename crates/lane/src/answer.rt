@@ -1,4 +1,5 @@
-// Answers in numbers, for C: an exported function hands back no enum.
+// Answers in numbers, for C: an exported function hands back no enum. And answers beside the record.
+use pages::answer::Count;
 use record::store::Store;
 
 // Key's: refusal 0 and the count, or the number of the question that was answered "no", and count 0.
@@ -15,8 +16,9 @@ pub struct Report {
     pub number: usize,
 }
 
-pub struct Numbered {
-    pub answer: Present,
+// Of a lender, beside the record.
+pub struct Counted {
+    pub answer: Count,
     pub store: Store,
 }
 

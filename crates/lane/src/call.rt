@@ -1,4 +1,6 @@
-// The calls over a lent record: each calls the by-value core, and puts the record back. Key, page-out and advance answer with an enum, and with numbers for C.
+// The calls over a lent record: each calls the by-value core, and puts the record back. Key and read change nothing, so that there is none to put back;
+// they are lent card and memory for one lifetime, as their cores are.
+// Key, page-out and advance answer with an enum, and with numbers for C.
 use super::answer::Present;
 use super::answer::Report;
 use super::number;
@@ -38,29 +40,30 @@ pub extern "C" fn lane_start(s: &mut Store, card: &[u8], memory: &[u8]) -> u32
 }
 
 #[no_mangle]
-pub extern "C" fn lane_key(s: &mut Store, card: &[u8], memory: &[u8], oid: u32) -> Present
+pub extern "C" fn lane_key<'s, 'a>(
+    s: &'s mut Store,
+    card: &'a [u8],
+    memory: &'a [u8],
+    oid: u32,
+) -> Present
     ensures { λ r. ⌜ Linked (call.key oid) (lent (now (s .entry)) (now (memory .entry)) (now (card .entry))) (present (r .refusal) (r .count)) (lent (now (s .exit)) (now (memory .entry)) (now (card .entry))) ⌝ }
 {
-    let d = number::key(*s, card, memory, oid);
-    *s = d.store;
-    d.answer
+    number::key(*s, card, memory, oid)
 }
 
 #[no_mangle]
-pub extern "C" fn lane_read(
-    s: &mut Store,
-    card: &[u8],
-    memory: &[u8],
+pub extern "C" fn lane_read<'s, 'a, 'b>(
+    s: &'s mut Store,
+    card: &'a [u8],
+    memory: &'a [u8],
     oid: u32,
     count: u32,
-    buffer: &mut [u8],
+    buffer: &'b mut [u8],
 ) -> u32
     ensures { λ r. ⌜ Linked (call.read oid count (now (buffer .entry))) (lent (now (s .entry)) (now (memory .entry)) (now (card .entry))) (filling r (now (buffer .exit)))
         (lent (now (s .exit)) (now (memory .entry)) (now (card .entry))) ⌝ }
 {
-    let d = read::read(*s, card, memory, oid, count, buffer);
-    *s = d.store;
-    d.answer
+    read::read(*s, card, memory, oid, count, buffer)
 }
 
 #[no_mangle]
@@ -122,12 +125,10 @@ pub extern "C" fn lane_advance(s: &mut Store, card: &mut [u8], memory: &[u8]) ->
     d.answer
 }
 
-pub fn key(s: &mut Store, card: &[u8], memory: &[u8], oid: u32) -> Count
+pub fn key<'s, 'a>(s: &'s mut Store, card: &'a [u8], memory: &'a [u8], oid: u32) -> Count
     ensures { λ r. ⌜ Kept (call.key oid) (lent (now (s .entry)) (now (memory .entry)) (now (card .entry))) (countedAs r) (lent (now (s .exit)) (now (memory .entry)) (now (card .entry))) ⌝ }
 {
-    let d = key::key(*s, card, memory, oid);
-    *s = d.store;
-    d.answer
+    key::key(*s, card, memory, oid)
 }
 
 pub fn page_out(s: &mut Store, card: &mut [u8], memory: &[u8]) -> Advance

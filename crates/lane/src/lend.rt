@@ -1,9 +1,9 @@
 // The calls with the record by value: each keeps the record in a local, lends it to a call over a lent record, and hands it back beside the answer.
 // A program that calls these is covered; one that lends the record itself is not.
+use super::answer::Counted;
 use super::call;
 use frames::answer::Advanced;
 use frames::answer::Done;
-use pages::answer::Counted;
 use record::store::Store;
 ghost use Rattle.frames.specs.Promise.{lent, reported};
 ghost use Rattle.pages.specs.Promise as call;
@@ -23,7 +23,7 @@ pub fn start(s: Store, card: &[u8], memory: &[u8]) -> Done
     }
 }
 
-pub fn key(s: Store, card: &[u8], memory: &[u8], oid: u32) -> Counted
+pub fn key<'a>(s: Store, card: &'a [u8], memory: &'a [u8], oid: u32) -> Counted
     ensures { λ r. ⌜ Kept (call.key oid) (lent s (now (memory .entry)) (now (card .entry))) (countedAs (r .answer)) (lent (r .store) (now (memory .entry)) (now (card .entry))) ⌝ }
 {
     let mut t = s;
@@ -34,7 +34,14 @@ pub fn key(s: Store, card: &[u8], memory: &[u8], oid: u32) -> Counted
     }
 }
 
-pub fn read(s: Store, card: &[u8], memory: &[u8], oid: u32, count: u32, buffer: &mut [u8]) -> Done
+pub fn read<'a>(
+    s: Store,
+    card: &'a [u8],
+    memory: &'a [u8],
+    oid: u32,
+    count: u32,
+    buffer: &mut [u8],
+) -> Done
     ensures { λ r. ⌜ Linked (call.read oid count (now (buffer .entry))) (lent s (now (memory .entry)) (now (card .entry))) (filling (r .answer) (now (buffer .exit)))
         (lent (r .store) (now (memory .entry)) (now (card .entry))) ⌝ }
 {

@@ -1,5 +1,4 @@
 // By-value calls in the form that a wrapper calls: answers that are enums as numbers, and start with the record that it replaces.
-use super::answer::Numbered;
 use super::answer::Present;
 use super::answer::Report;
 use super::answer::Reported;
@@ -49,16 +48,11 @@ fn report(a: Advance) -> Report
     }
 }
 
-pub fn key(s: Store, card: &[u8], memory: &[u8], oid: u32) -> Numbered
-    ensures { λ r. ⌜ Linked (key oid) (lent s (now (memory .entry)) (now (card .entry))) (present (r .answer .refusal) (r .answer .count)) (lent (r .store) (now (memory .entry)) (now (card .entry))) ⌝ }
+pub fn key<'a>(s: Store, card: &'a [u8], memory: &'a [u8], oid: u32) -> Present
+    ensures { λ r. ⌜ Linked (key oid) (lent s (now (memory .entry)) (now (card .entry))) (present (r .refusal) (r .count)) (lent s (now (memory .entry)) (now (card .entry))) ⌝ }
 {
-    let d = key::key(s, card, memory, oid);
-    let c = d.answer;
-    let t = d.store;
-    Numbered {
-        answer: present(c),
-        store: t,
-    }
+    let c = key::key(s, card, memory, oid);
+    present(c)
 }
 
 pub fn page_out(s: Store, card: &mut [u8], memory: &[u8]) -> Reported

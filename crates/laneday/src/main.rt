@@ -1,4 +1,5 @@
-// A day of a lane over one record, which is lent to each call: two payments and a tag handed in, a snapshot, advances until none is due, a power-up, and what is found.
+// A day of a lane over one record, which is lent to each call: two payments and a tag handed in, a page-out, a snapshot, advances until none is due, a power-up, and what
+// is found.
 // A line for each call: its name, and the number that it answers or what it tells.
 use frames::answer::Advance;
 use lane::call;
@@ -25,13 +26,13 @@ fn start(s: Store, card: &[u8], memory: &[u8]) -> Store {
     d.store
 }
 
-fn pay(s: Store, card: &[u8], memory: &mut [u8], oid: u32, euros: u8) -> Store {
+fn write(s: Store, card: &[u8], memory: &mut [u8], oid: u32, euros: u8) -> Store {
     let d = lend::write(s, card, memory, oid, 0, 0, &[euros]);
     print_line(b"write", d.answer as u64);
     d.store
 }
 
-fn hand_in(s: Store, card: &[u8], memory: &mut [u8], oid: u32) -> Store {
+fn rescind(s: Store, card: &[u8], memory: &mut [u8], oid: u32) -> Store {
     let d = lend::rescind(s, card, memory, oid, 0);
     print_line(b"rescind", d.answer as u64);
     d.store
@@ -43,7 +44,7 @@ fn snapshot(s: Store, card: &[u8], memory: &[u8]) -> Store {
     d.store
 }
 
-// Prints what was written; false where the advance was refused.
+// Prints what was written; false where the call was refused.
 fn print_advance(a: Advance) -> bool {
     match a {
         Advance::P(n) => {
@@ -73,6 +74,14 @@ fn print_advance(a: Advance) -> bool {
     }
 }
 
+fn page_out(s: Store, card: &mut [u8], memory: &[u8]) -> Store {
+    let r = lend::page_out(s, card, memory);
+    let t = r.store;
+    let a = r.answer;
+    print_advance(a);
+    t
+}
+
 // A proved loop has to end, so it counts its turns down from more than any card of this size can need.
 fn advance_all(s: Store, card: &mut [u8], memory: &[u8]) -> Store {
     let mut t = s;
@@ -90,7 +99,7 @@ fn advance_all(s: Store, card: &mut [u8], memory: &[u8]) -> Store {
 }
 
 // Prints the count of a page, and the first byte that is read with that key.
-fn show(s: Store, card: &[u8], memory: &[u8], oid: u32) -> Store {
+fn show<'a>(s: Store, card: &'a [u8], memory: &'a [u8], oid: u32) -> Store {
     let k = lend::key(s, card, memory, oid);
     let t = k.store;
     let c = k.answer;
@@ -110,22 +119,27 @@ fn show(s: Store, card: &[u8], memory: &[u8], oid: u32) -> Store {
 }
 
 fn passages(s: Store, card: &[u8], memory: &mut [u8]) -> Store {
-    let t = pay(s, card, memory, 100, 5);
-    let u = pay(t, card, memory, 101, 7);
-    hand_in(u, card, memory, 101)
+    let t = write(s, card, memory, 100, 5);
+    let u = write(t, card, memory, 101, 7);
+    rescind(u, card, memory, 101)
 }
 
-fn morning(card: &mut [u8], memory: &mut [u8]) -> Store {
+fn commit(s: Store, card: &mut [u8], memory: &[u8]) {
+    let t = page_out(s, card, memory);
+    let u = snapshot(t, card, memory);
+    advance_all(u, card, memory);
+}
+
+fn morning(card: &mut [u8], memory: &mut [u8]) {
     let s = start(store::zeros(), card, memory);
     let t = passages(s, card, memory);
-    let u = snapshot(t, card, memory);
-    advance_all(u, card, memory)
+    commit(t, card, memory);
 }
 
-// After a power-up memory holds any bytes, and start does not read the record that it is lent.
-fn evening(card: &mut [u8], s: Store) {
+// After a power-up memory holds any bytes, and the record is a new one.
+fn evening(card: &[u8]) {
     let memory = [255u8; 2048];
-    let t = start(s, card, &memory);
+    let t = start(store::zeros(), card, &memory);
     let u = show(t, card, &memory, 100);
     show(u, card, &memory, 101);
 }
@@ -137,6 +151,6 @@ fn main() {
         b"format",
         call::lane_format(&mut card, 16, &[100, 2]) as u64,
     );
-    let s = morning(&mut card, &mut memory);
-    evening(&mut card, s);
+    morning(&mut card, &mut memory);
+    evening(&card);
 }

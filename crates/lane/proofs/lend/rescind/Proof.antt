@@ -1,10 +1,9 @@
 -- `lane::lend::rescind` meets its contract, by the law of lenders. All that the proof knows of `lane::call::lane_rescind` is that it meets its contract.
 -- Assumes nothing.
-use Rattle.wraplaw.proofs.Lend.{refl, List, [], _∷_, w32, id⊢, Param, number, shared, mutable, machine, lender}
+use Rattle.wraplaw.proofs.Lend.{refl, List, [], _∷_, w32, Param, number, shared, mutable, lender}
 use Rattle.record.proofs.store.Store as S
 use Rattle.record.proofs.store.Store.Laws as S′
-use Rattle.frames.proofs.answer.Done as D
-use Rattle.frames.proofs.answer.Done.Laws as D′
+use Rattle.lane.proofs.Answers.{done}
 use Rattle.lane.proofs.call.lane_rescind as wrapper
 use Rattle.lane.proofs.call.lane_rescind.Symbol as wrapper-def
 use Rattle.lane.proofs.call.lane_rescind.Met as wrapper-thm
@@ -19,6 +18,5 @@ ps = shared 0 tt ∷ mutable 1 tt ∷ number w32 ∷ number w32 ∷ []
 pub rescind-spec : {M : Type 1} → stated.statement M
 unfolding code.routine
 rescind-spec 𝓤 H 𝓜 𝓖 𝓡 =
-    lender S.the-type S′.the-laws S′.the-plain D.the-type D′.the-laws D′.the-plain ps 𝓤 H 𝓜 𝓖 𝓡 (f.clauses 𝓤 H (𝓖 .A) (𝓜 .mem) (𝓡 .run)) (wrapper.clauses 𝓤 H (𝓖 .A) (𝓜 .mem) (𝓡 .run)) (λ a w. record { answer = a; store = w }) refl refl code.function wrapper-def.name
-    (λ a w v p q. ((v ∷ [], (_, tt)), (refl, (p, (q, tt))))) code.env #rescind (code.unfolded 𝓤 H 𝓜 𝓡) wrapper-def.routine code.calls-lane·call·lane-rescind (wrapper-thm.met 𝓤 H 𝓜 𝓖 𝓡) (λ κs h bs g are.
-    record { locals-are = refl; body-is = refl; taken = refl; given = λ ν. bs; values = λ ν. machine ps κs bs; passed = λ ν. refl; owning = λ ν. id⊢ 𝓤 _; ghost = λ ν l γ. tt; asked = λ ν l γ. id⊢ 𝓤 _; last = λ ν ws. ws; leaving = λ ν ws. id⊢ 𝓤 _; says = λ ν l γ a w ws. id⊢ 𝓤 _ })
+    lender S.the-type S′.the-laws S′.the-plain done ps 𝓤 H 𝓜 𝓖 𝓡 code.env #rescind code.function (code.unfolded 𝓤 H 𝓜 𝓡) wrapper-def.name wrapper-def.routine code.calls-lane·call·lane-rescind (f.clauses 𝓤 H (𝓖 .A) (𝓜 .mem) (𝓡 .run)) (wrapper.clauses 𝓤 H (𝓖 .A) (𝓜 .mem) (𝓡 .run)) refl refl (wrapper-thm.met 𝓤 H 𝓜 𝓖 𝓡)
+    (λ κs bs are. (refl, refl)) (λ κs h bs ν l γ a w ws e. e)

@@ -6,4 +6,4 @@ use Rattle.lane.proofs.number.key.Statement.{statement}
 use Rattle.lane.proofs.number.key.Tie as tie
 
 pub key-spec : {M : Type 1} → statement M
-key-spec = tie.close (tie.spec (λ c κs. search needs) (λ c κs. search needs) (λ c. linked-key _ _ _ _ _ (c .present .ensures) (c .before .before .key .ensures)))
+key-spec = tie.close (tie.spec (λ c κs. search needs) (λ c κs. search needs) (λ c. linked-key _ _ _ _ _ (c .present .ensures) (c .before .key .ensures)))
