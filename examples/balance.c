@@ -39,15 +39,16 @@ static void done(const char *call, size_t refusal)
     exit(1);
 }
 
+/* The file is open with O_DSYNC: what pwrite has written is durable. */
 static void put(const controller *c, const uint8_t *bytes, size_t length, size_t block)
 {
     off_t at = (off_t)(block * LANE_BLOCK);
     const char *what = "the image was not written";
     ssize_t written = pwrite(c->file, bytes, length, at);
-    if (written >= 0 && (size_t)written != length)
-        fail(what, "only a part was");
-    if (written < 0 || fdatasync(c->file) != 0)
+    if (written < 0)
         fail(what, strerror(errno));
+    if ((size_t)written != length)
+        fail(what, "only a part was");
 }
 
 /* The header goes last: start refuses a new file without it. */
@@ -55,7 +56,7 @@ static void format(controller *c, const char *image)
 {
     const uint32_t range[2] = {FIRST, TAGS};
     done("format", lane_format(c->card, sizeof c->card, AREA, range, 2));
-    c->file = open(image, O_WRONLY | O_CREAT | O_EXCL, 0666);
+    c->file = open(image, O_WRONLY | O_CREAT | O_EXCL | O_DSYNC, 0666);
     if (c->file < 0)
         fail(image, strerror(errno));
     put(c, c->card + LANE_BLOCK, sizeof c->card - LANE_BLOCK, 1);
@@ -64,7 +65,7 @@ static void format(controller *c, const char *image)
 
 static void start(controller *c, const char *image)
 {
-    c->file = open(image, O_RDWR);
+    c->file = open(image, O_RDWR | O_DSYNC);
     if (c->file < 0)
         fail(image, strerror(errno));
     if (pread(c->file, c->card, sizeof c->card, 0) != (ssize_t)sizeof c->card)
@@ -99,13 +100,13 @@ static void report(lane_report r, const char *how)
 /* Dies as in a power cut: block 0 is still old, any other has no sense in its first half. */
 static void cut(const controller *c, lane_report r)
 {
-    if (r.number != 0) {
+    if (r.kind != LANE_H) {
         uint8_t torn[LANE_BLOCK];
         memcpy(torn, c->card + r.number * LANE_BLOCK, LANE_BLOCK);
         memset(torn, 0xFF, LANE_BLOCK / 2);
         put(c, torn, LANE_BLOCK, r.number);
     }
-    report(r, r.number == 0 ? "not written" : "torn");
+    report(r, r.kind == LANE_H ? "not written" : "torn");
     fflush(stdout);
     kill(getpid(), SIGKILL);
 }

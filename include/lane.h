@@ -17,8 +17,8 @@
  *   that lane_start refuses a card whose format was cut.
  * - After lane_page_out and lane_advance the block that they report. A snapshot is kept once H is
  *   durable.
- * - Each before the next lane_page_out or lane_advance, by fdatasync or the like. If the device
- *   fails, the copy is ahead of it: read the device again, and start.
+ * - Each before the next lane_page_out or lane_advance: by a device opened with O_DSYNC, or by
+ *   fdatasync. If the device fails, the copy is ahead of it: read the device again, and start.
  * - No other block is written, not even with the bytes it has: a cut could tear it.
  * The device owes that a cut harms only the block being written, and leaves block 0 old or new.
  * A shared mapping of the device does not do: the system may write it back during a call, block 0
@@ -95,9 +95,9 @@ typedef struct {
     size_t taken;
     size_t down;
     uint16_t frames[256];
-    uint16_t places[256];
+    uint8_t places[256];
 } lane_changes;
-LANE_SIZE(lane_changes, 1048);
+LANE_SIZE(lane_changes, 792);
 
 /* The record. */
 typedef struct {
@@ -113,7 +113,7 @@ typedef struct {
     size_t tail;
     lane_changes current;
 } lane_store;
-LANE_SIZE(lane_store, 3272);
+LANE_SIZE(lane_store, 2760);
 
 /* What lane_key answers: LANE_DONE and the present count, or the refusal and 0. */
 typedef struct {

@@ -5,6 +5,10 @@ use crate::machine::bytes_written;
 use crate::store::Page;
 use crate::subject::Subject;
 
+/// Entries of a directory block.
+const ENTRIES: usize = 64;
+const TRAILER_AND_HEADER: usize = 2;
+
 #[derive(Clone, Copy)]
 pub struct Plan {
     pub pages: usize,
@@ -50,6 +54,16 @@ pub fn nanoseconds(clock: &Clock, subject: &mut Subject, plan: Plan, commits: us
     typical(subject, plan, commits, |s, batch| {
         clock.time(|| commit(s, batch, plan.home)).0
     })
+}
+
+/// What a lane store's commit takes of the device: as many blocks as it writes, written alone.
+pub fn device(clock: &Clock, subject: &mut Subject, plan: Plan, samples: usize) -> Option<f64> {
+    let homes = if plan.home { plan.pages } else { 0 };
+    let blocks = plan.pages + plan.pages.div_ceil(ENTRIES) + TRAILER_AND_HEADER + homes;
+    let lane = subject.store.lane()?;
+    Some(median(samples, |_| {
+        clock.time(|| lane.write_again(blocks)).0
+    }))
 }
 
 /// What a commit hands to write calls.

@@ -90,6 +90,11 @@ impl Controller {
         self.synced.as_ref().map_or(0, Synced::syncs)
     }
 
+    /// Writes so many blocks of the area as they are, each of them synced.
+    pub fn write_again(&mut self, blocks: usize) {
+        (1..=blocks).for_each(|block| self.write_through(block));
+    }
+
     fn write_through(&mut self, block: usize) {
         if let Some(file) = &mut self.synced {
             file.put(self.calls.card(), block);

@@ -43,6 +43,8 @@ const MAPPED: Columns = [Some(0), Some(2), None, None, None];
 const SYNCED: Columns = [Some(1), Some(3), Some(4), Some(5), Some(6)];
 /// Stores whose syncs this program makes itself.
 const COUNTED: Columns = [Some(1), Some(3), None, None, None];
+/// The device's share is the same for both of them.
+const DEVICE: Columns = [Some(1), None, None, None, None];
 
 pub struct Report {
     clock: Clock,
@@ -206,6 +208,8 @@ impl Report {
                 let cells = self.lowest(columns, |c, s| Some(commits::nanoseconds(c, s, plan, n)));
                 table::nanoseconds(&format!("{}, {how}", label(plan)), &cells, floor);
             }
+            let cells = self.lowest(DEVICE, |c, s| commits::device(c, s, plan, n));
+            table::nanoseconds("  its writes and syncs alone", &cells, floor);
         }
     }
 

@@ -107,7 +107,7 @@ impl Controller {
 
     /// Dies as in a power cut: block 0 is still old, any other has no sense in its first half.
     fn cut(&self, report: Advance) -> Outcome<()> {
-        if report.block() == 0 {
+        if matches!(report, Advance::H(_)) {
             println!("{report} not written");
         } else {
             let mut torn = self.block(report).to_vec();

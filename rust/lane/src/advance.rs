@@ -1,4 +1,4 @@
-use crate::raw::Report;
+use crate::c::Report;
 use crate::Refusal;
 use std::fmt;
 

@@ -40,6 +40,7 @@
 #![deny(clippy::undocumented_unsafe_blocks)]
 
 mod advance;
+pub mod c;
 mod raw;
 mod refusal;
 mod store;

@@ -1,3 +1,4 @@
+use crate::c::Record;
 use crate::raw;
 use crate::{Advance, Key, Refusal};
 use std::fmt;
@@ -7,12 +8,12 @@ use std::fmt;
 /// Lend every call the same card and the same memory, as the last call left them. The store checks
 /// their lengths, not whose they are.
 pub struct Store {
-    record: Box<raw::Record>,
+    record: Box<Record>,
 }
 
 impl Store {
     /// Bytes of the record.
-    pub const RECORD: usize = std::mem::size_of::<raw::Record>();
+    pub const RECORD: usize = std::mem::size_of::<Record>();
 
     /// Reads what a formatted card holds. Memory is 4 to 64 frames, with any bytes.
     ///

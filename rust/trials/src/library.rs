@@ -1,12 +1,12 @@
 //! The library under trial: the interface as the trials use it, and the proved
-//! library behind it. The declarations are its own, since the crate `lane` lends
-//! neither a record of any bytes with a margin after it nor ranges of an odd
-//! number of words.
-
-// For the library that it links.
-use lane as _;
+//! library behind it, by its C interface: the safe one lends neither a record of
+//! any bytes with a margin after it nor ranges of an odd number of words.
 
 use crate::call::{Answer, Call};
+use lane::c::{
+    lane_advance, lane_format, lane_key, lane_page_out, lane_read, lane_rescind, lane_snapshot,
+    lane_start, lane_write, Present, Report,
+};
 use model::Kind;
 use std::ops::Range;
 
@@ -16,7 +16,7 @@ use std::ops::Range;
 #[repr(C, align(8))]
 pub struct Record(pub [u8; RECORD + MARGIN]);
 
-pub const RECORD: usize = 3272;
+pub const RECORD: usize = lane::Store::RECORD;
 const MARGIN: usize = 64;
 /// The bytes between two fields of `lane_store` that belong to none.
 pub const PADDING: Range<usize> = 108..112;
@@ -41,102 +41,12 @@ pub trait Library {
     fn make(&mut self, call: &Call, loan: Loan<'_>, buffer: &mut [u8]) -> Answer;
 }
 
-#[repr(C)]
-struct Present {
-    refusal: u32,
-    count: u32,
-}
-
-#[repr(C)]
-struct Report {
-    kind: u32,
-    number: usize,
-}
-
-extern "C" {
-    fn lane_format(
-        card: *mut u8,
-        card_len: usize,
-        area: usize,
-        ranges: *const u32,
-        ranges_len: usize,
-    ) -> u32;
-    fn lane_start(
-        s: *mut Record,
-        card: *const u8,
-        card_len: usize,
-        memory: *const u8,
-        memory_len: usize,
-    ) -> u32;
-    fn lane_key(
-        s: *mut Record,
-        card: *const u8,
-        card_len: usize,
-        memory: *const u8,
-        memory_len: usize,
-        oid: u32,
-    ) -> Present;
-    fn lane_read(
-        s: *mut Record,
-        card: *const u8,
-        card_len: usize,
-        memory: *const u8,
-        memory_len: usize,
-        oid: u32,
-        count: u32,
-        buffer: *mut u8,
-        buffer_len: usize,
-    ) -> u32;
-    fn lane_write(
-        s: *mut Record,
-        card: *const u8,
-        card_len: usize,
-        memory: *mut u8,
-        memory_len: usize,
-        oid: u32,
-        count: u32,
-        at: usize,
-        bytes: *const u8,
-        bytes_len: usize,
-    ) -> u32;
-    fn lane_rescind(
-        s: *mut Record,
-        card: *const u8,
-        card_len: usize,
-        memory: *mut u8,
-        memory_len: usize,
-        oid: u32,
-        count: u32,
-    ) -> u32;
-    fn lane_snapshot(
-        s: *mut Record,
-        card: *const u8,
-        card_len: usize,
-        memory: *const u8,
-        memory_len: usize,
-    ) -> u32;
-    fn lane_page_out(
-        s: *mut Record,
-        card: *mut u8,
-        card_len: usize,
-        memory: *const u8,
-        memory_len: usize,
-    ) -> Report;
-    fn lane_advance(
-        s: *mut Record,
-        card: *mut u8,
-        card_len: usize,
-        memory: *const u8,
-        memory_len: usize,
-    ) -> Report;
-}
-
 /// The proved library.
 pub struct Linked;
 
 impl Library for Linked {
     fn make(&mut self, call: &Call, loan: Loan<'_>, buffer: &mut [u8]) -> Answer {
-        let s: *mut Record = loan.record;
+        let s: *mut lane::c::Record = (&raw mut *loan.record).cast();
         let (card, n) = (loan.card.as_mut_ptr(), loan.card.len());
         let (memory, m) = (loan.memory.as_mut_ptr(), loan.memory.len());
         let (bytes, l) = (buffer.as_mut_ptr(), buffer.len());

@@ -1,9 +1,9 @@
 //! Records that do not hold together, by the sentences of question 2.
 
 use super::form::{
-    element_at, is_known, put_element, put_size, size_at, Directory, AREA, COMMIT, COMMITTED,
-    COMMITTED_BLOCKS, CURRENT, FIRST, GEOMETRY_BLOCKS, HEAD, MIGRATED, PAGES, PENDING, RANGES,
-    RANGE_NUMBERS, TAIL, WIDTH,
+    element_at, is_known, place_at, put_element, put_place, put_size, size_at, Directory, AREA,
+    COMMIT, COMMITTED, COMMITTED_BLOCKS, CURRENT, FIRST, GEOMETRY_BLOCKS, HEAD, MIGRATED, PAGES,
+    PENDING, RANGES, RANGE_NUMBERS, TAIL, WIDTH,
 };
 use crate::library::Record;
 use crate::rng::Rng;
@@ -111,6 +111,12 @@ impl Breaker<'_> {
     fn set_element(&mut self, sentence: &'static str, at: usize, to: usize) {
         let what = format!("element made {to}");
         self.push(sentence, what, |record| put_element(record, at, to));
+    }
+
+    /// One place made another.
+    fn set_place(&mut self, sentence: &'static str, at: usize, to: usize) {
+        let what = format!("place made {to}");
+        self.push(sentence, what, |record| put_place(record, at, to));
     }
 
     /// Geometry passes 5.
@@ -254,8 +260,7 @@ impl Breaker<'_> {
         }
         self.set("p below e", directory.taken(), e - 1);
         for i in 0..e {
-            let at = directory.places() + WIDTH * i;
-            self.set_element("a place not taken", at, p);
+            self.set_place("a place not taken", directory.place(i), p);
         }
         let to_half = self.store.geometry.half() - changes.size();
         let taken = self.store.other_sizes() + self.store.current.size();
@@ -284,20 +289,19 @@ impl Breaker<'_> {
     fn waiting_places(&mut self, directory: Directory, changes: &Changes) {
         let (down, e) = (changes.written.len(), changes.e());
         let longer = longer(self.good, directory, 1);
-        let at = |i: usize| directory.places() + WIDTH * i;
         for i in 0..e {
-            let place = element_at(self.good, at(i));
+            let place = place_at(self.good, directory.place(i));
             if place < down {
                 continue;
             }
             let what = format!("entry {i} at place 0");
             self.push("a waiting place without entry", what, |record| {
                 *record = longer;
-                put_element(record, at(i), 0);
+                put_place(record, directory.place(i), 0);
             });
             if e > 1 {
-                let other = at((i + 1) % e);
-                self.set_element("a waiting place named twice", other, place);
+                let other = directory.place((i + 1) % e);
+                self.set_place("a waiting place named twice", other, place);
             }
         }
     }
@@ -349,7 +353,7 @@ impl Breaker<'_> {
         for i in 0..count {
             let frame = geometry.area + 1 + i;
             put_element(&mut record, CURRENT.frames + WIDTH * i, frame);
-            put_element(&mut record, CURRENT.places() + WIDTH * i, i);
+            put_place(&mut record, CURRENT.place(i), i);
         }
         Some(record)
     }
@@ -363,10 +367,9 @@ fn longer(good: &Record, directory: Directory, by: usize) -> Record {
         put_size(&mut record, at, size_at(good, at) + by);
     }
     for i in 0..size_at(good, directory.count) {
-        let at = directory.places() + WIDTH * i;
-        let place = element_at(good, at);
+        let place = place_at(good, directory.place(i));
         if place >= down {
-            put_element(&mut record, at, place + by);
+            put_place(&mut record, directory.place(i), place + by);
         }
     }
     record

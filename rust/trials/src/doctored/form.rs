@@ -28,12 +28,12 @@ pub const PENDING: Directory = Directory {
     frames: 1192,
 };
 /// Blocks down of the pending directory and trailer.
-pub const TAIL: usize = 2216;
+pub const TAIL: usize = 1960;
 pub const CURRENT: Directory = Directory {
-    count: 2224,
-    frames: 2248,
+    count: 1968,
+    frames: 1992,
 };
-/// Bytes of an element of its arrays.
+/// Bytes of a frame's or a block's number. A place has one.
 pub const WIDTH: usize = 2;
 
 /// A directory's number of entries and its frames.
@@ -55,9 +55,9 @@ impl Directory {
         self.count + 16
     }
 
-    /// The last place of each frame.
-    pub const fn places(self) -> usize {
-        self.frames + 256 * WIDTH
+    /// The last place of frame i.
+    pub const fn place(self, i: usize) -> usize {
+        self.frames + 256 * WIDTH + i
     }
 }
 
@@ -76,6 +76,14 @@ pub fn element_at(record: &Record, at: usize) -> usize {
 
 pub fn put_element(record: &mut Record, at: usize, to: usize) {
     record.0[at..at + WIDTH].copy_from_slice(&(to as u16).to_le_bytes());
+}
+
+pub fn place_at(record: &Record, at: usize) -> usize {
+    usize::from(record.0[at])
+}
+
+pub fn put_place(record: &mut Record, at: usize, to: usize) {
+    record.0[at] = to as u8;
 }
 
 /// Do the fields say what the model says?
