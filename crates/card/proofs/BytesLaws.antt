@@ -168,6 +168,12 @@ patch-last s at v e =
     let none : drop (at + length v) s ≡ [] = drop-of-length-le s {i = at + length v} (omega arith) in
     ap (λ (l : List ℕ). take at s ++ (v ++ l)) none ∙ ap (λ (l : List ℕ). take at s ++ l) (append-nil v)
 
+-- a patch of a whole list
+pub patch-whole : (s : List ℕ) (at : ℕ) (v : List ℕ) → at + length v ≤ length s → length v ≡ length s → patch s at v ≡ v
+patch-whole s at v h e =
+    let first : at ≡ 0 = omega (arith, h, e) in
+    rw first (patch-last s 0 v (omega (arith, e)))
+
 -- a part put back as it was
 front-back : (n : ℕ) (xs : List ℕ) → take n xs ++ drop (length (take n xs)) xs ≡ xs
 front-back zero xs = refl

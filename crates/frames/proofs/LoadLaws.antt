@@ -7,32 +7,37 @@ use mathlib.Core.List.{List, [], _∷_}
 use mathlib.Core.Logic.{_≢_}
 use mathlib.Core.Path.{_≡_, refl, ap, sym, _∙_}
 use native.Mathlib.Omega.{arith}
+use Rattle.card.proofs.AllLaws.{all-map, all-tab}
+use Rattle.card.proofs.BlockLaws.{block-length}
 use Rattle.card.proofs.BytesLaws.{tab-getD}
 use Rattle.card.proofs.RingLaws.{ring-high, size-above}
 use Rattle.card.specs.Block.{blockAt}
+use Rattle.card.specs.Bytes.{All}
 use Rattle.card.specs.Directory.{entryIn, entriesOf}
 use Rattle.card.specs.Ring.{ringAt}
 use Rattle.card.specs.declared.directory.Entry.{Entry}
-use Rattle.frames.proofs.ReadyLaws.{firsts}
+use Rattle.frames.proofs.ReadyLaws.{Ready, firsts}
 use Rattle.frames.specs.Parts.{Located, foundBytes, committedBytes}
 use Rattle.frames.specs.declared.answer.Found.{Found}
 use Rattle.record.proofs.Held.{Listed, Held, held, bounds}
 use Rattle.record.proofs.ListLaws.{first-none, first-found}
 use Rattle.record.proofs.SeatLaws.{seat-low}
-use Rattle.record.proofs.SoundLaws.{frame-is, same-index, queue-length, entry-inside}
+use Rattle.record.proofs.SoundLaws.{frame-is, same-index, queue-length, entry-inside, sound}
 use Rattle.record.specs.Holds.{holdsTogether}
 use Rattle.record.specs.Lists.{First}
-use Rattle.record.specs.Meaning.{waits, noteIn, notesOf, seatAt, queueOf, generationOf, committedOf, pendingFirst, currentFirst}
+use Rattle.record.specs.Meaning.{waits, noteIn, notesOf, seatAt, queueOf, generationOf, committedOf, pendingFirst, currentFirst, stateOf}
 use Rattle.record.specs.declared.store.Changes.{Changes}
 use Rattle.record.specs.declared.store.Store.{Store}
-use Rattle.recovery.proofs.ContentsLaws.{overlay-without}
+use Rattle.recovery.proofs.ContentsLaws.{overlay-without, overlay-whole, stored-whole, all-byFrame}
 use Rattle.recovery.proofs.NoteLaws.{lookup-byFrame, lookup-hit, lookup-miss, shown, overlay-lookup}
-use Rattle.recovery.proofs.PlaceLaws.{lookup-other, lookup-down}
+use Rattle.recovery.proofs.PlaceLaws.{lookup-other, lookup-down, down-inside}
 use Rattle.recovery.proofs.Sorted.{lookup}
 use Rattle.recovery.proofs.WaitLaws.{wait-without, overlay-turn}
+use Rattle.recovery.specs.Book.{WholeFrame}
 use Rattle.recovery.specs.Contents.{Contents, overlay, storedFrames}
 use Rattle.recovery.specs.Directory.{Note, downEntries, dirOf, frameOf}
-use Rattle.recovery.specs.State.{Generation, directoryOf, waitingFrames}
+use Rattle.recovery.specs.Sound.{Between}
+use Rattle.recovery.specs.State.{Generation, directoryOf, waitingFrames, readFrame}
 
 -- ---- what a generation shows of a frame
 
@@ -215,3 +220,30 @@ from-memory r card memory e = rw e
 pub from-card : (r : Found) (card memory : List ℕ) → r .memory ≡ false → foundBytes r card memory ≡ blockAt card (r .number)
 unfolding foundBytes
 from-card r card memory e = rw e
+
+-- ---- a frame's newest bytes are a whole block
+
+module _ (s : Store) (m c : List ℕ) (r : Ready s (length m) (length c)) (f : ℕ) (inside : f < s .geometry .blocks) where
+  low : s .geometry .area < s .geometry .blocks
+  low = bounds s (held s (r .together)) .area-inside
+
+  -- of a generation, over a whole block
+  over-whole : {g : Changes} {first ahead : ℕ} → Placed s g first ahead → (w : List (List ℕ)) → All (WholeFrame (s .geometry .area) (s .geometry .blocks)) (waitingFrames (generationOf first w g))
+      → (base : Contents) → length (base f) ≡ 512 → length (overlay (waitingFrames (generationOf first w g)) (overlay (storedFrames c (directoryOf (s .geometry .area) (generationOf first w g))) base) f) ≡ 512
+  unfolding directoryOf dirOf
+  over-whole {g} {first} p w whole base below =
+      let area = s .geometry .area in
+      let taken : All (λ e. e .place ≤ area) (notesOf g) = all-tab _ (noteIn (g .frames) (g .places)) 0 (g .count) (λ k a b. omega (arith, p .listed .taken k (omega (arith, b)), p .inside (omega (arith, b)))) in
+      let down = down-inside area first (p .first-in) (g .down) (notesOf g) taken in
+      let stored = stored-whole c area _ (r .card-is) low (dirOf area first (g .down) (notesOf g)) (all-byFrame (λ e. e .block ≤ area) (downEntries area first (g .down) (notesOf g)) down) in
+      let waiting = all-map (WholeFrame area (s .geometry .blocks)) (λ x. length (x .bytes) ≡ 512) (waitingFrames (generationOf first w g)) (λ x h. h .0) whole in
+      overlay-whole _ _ f waiting (overlay-whole _ base f stored below)
+
+  pub newest-whole : length (readFrame (stateOf s m) c f) ≡ 512
+  unfolding readFrame
+  newest-whole =
+      let n = sound s m (r .together) (r .memory-is) in
+      let entries = committedOf s .entries in
+      let stored = stored-whole c (s .geometry .area) _ (r .card-is) low entries (all-map (Between (s .geometry .area) (s .first) 0 (s .pages)) (λ e. e .block ≤ s .geometry .area) entries (λ e h. h .1) (n .committed-inside)) in
+      let committed = overlay-whole (storedFrames c entries) (blockAt c) f stored (block-length c f (omega (arith, r .card-is))) in
+      over-whole (current-placed s (r .together)) _ (n .current-home .1) _ (over-whole (pending-placed s (r .together)) _ (n .pending-home .1) _ committed)

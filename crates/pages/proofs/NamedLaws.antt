@@ -23,6 +23,7 @@ use Rattle.card.specs.Range.{rangeIn, rangesOf}
 use Rattle.card.specs.declared.range.Address.{Address}
 use Rattle.card.specs.declared.range.Lookup.{Lookup}
 use Rattle.card.specs.declared.range.Lookup.the-variants.{Located, Outside}
+use Rattle.frames.proofs.LoadLaws.{newest-whole}
 use Rattle.frames.proofs.ReadyLaws.{Ready, ready, common-passed, common-refused}
 use Rattle.frames.specs.Parts.{framesWith, Changing}
 use Rattle.frames.specs.Promise.{Lent, meaningOf, commonAsks, common}
@@ -113,6 +114,10 @@ module _ (l : Lent) (oid : ℕ) (p : Address) (f : Found l oid p) where
 
   pub pot-readable : (firstNo (common l) ≡ 0) × (p .pot < l .store .geometry .blocks)
   pot-readable = (f .passed, found-within .pot-high)
+
+  -- its page is a whole block
+  pub page-whole : length (presentFrames l (p .page)) ≡ 512
+  page-whole = newest-whole (l .store) (l .memory) (l .card) found-ready (p .page) (found-within .page-high)
 
   -- they are small numbers
   pub small : (p .page < 65536) × (p .pot < 65536)

@@ -92,9 +92,12 @@ pub fn write(
         let names = [number::short(n.address.page), number::short(n.address.pot)];
         return change::put(s, change::change(s, memory, &names, &both));
     }
-    let mut page = block::empty();
-    bytes::copy(load::load(s, card, memory, n.address.page), &mut page);
-    patch(&mut page, at, new);
     let names = [number::short(n.address.page)];
+    // A page that is written whole keeps nothing of its old bytes, and is not looked up.
+    if new.len() == 512 {
+        return change::put(s, change::change(s, memory, &names, new));
+    }
+    let mut page = block::array(load::load(s, card, memory, n.address.page));
+    patch(&mut page, at, new);
     change::put(s, change::change(s, memory, &names, &page))
 }

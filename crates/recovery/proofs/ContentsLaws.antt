@@ -11,13 +11,12 @@ use mathlib.Core.Path.{_≡_, refl, ap, sym, _∙_}
 use native.Mathlib.Omega.{arith}
 use Rattle.card.proofs.BlockLaws.{block-length}
 use Rattle.card.proofs.Test.{byTest, tests-swap, tests-twice}
-use Rattle.card.specs.Block.{blockAt, whole}
+use Rattle.card.specs.Block.{blockAt}
 use Rattle.card.specs.Bytes.{All}
 use Rattle.card.specs.declared.directory.Entry.{Entry}
 use Rattle.recovery.proofs.Sorted.{withoutFrame, queueChange, Without, Once, Absent, oldest}
 use Rattle.recovery.specs.Contents.{Contents, FrameBytes, overlay, storedFrames}
 use Rattle.recovery.specs.Directory.{insertByFrame, byFrame}
-use Rattle.recovery.specs.Sound.{Between}
 
 -- the base counts only at the frame asked for
 pub overlay-base : (ws : List FrameBytes) (a b : Contents) (f : ℕ) → a f ≡ b f → overlay ws a f ≡ overlay ws b f
@@ -108,13 +107,17 @@ unfolding storedFrames
 storedFrames-same c d [] h = refl
 storedFrames-same c d (e ∷ es) h = cc (h .0, storedFrames-same c d es (h .1))
 
--- a directory whose blocks lie in the area shows a block for each frame of the card
-pub overlay-long : (c : List ℕ) (es : List Entry) (area first lo hi blocks f : ℕ) → length c ≡ 512 * blocks → area < blocks → All (Between area first lo hi) es → f < blocks
-    → length (overlay (storedFrames c es) (blockAt c) f) ≡ 512
-unfolding overlay storedFrames
-overlay-long c [] area first lo hi blocks f whole home h l = block-length c f (omega arith)
-overlay-long c (e ∷ es) area first lo hi blocks f whole home h l = byTest (λ (x : List ℕ). length x ≡ 512) (eqb f (e .frame))
-    (λ q. block-length c (e .block) (omega (arith, h .0 .1))) (λ q. overlay-long c es area first lo hi blocks f whole home (h .1) l)
+-- whole blocks over a whole block show one
+pub overlay-whole : (ws : List FrameBytes) (base : Contents) (f : ℕ) → All (λ w. length (w .bytes) ≡ 512) ws → length (base f) ≡ 512 → length (overlay ws base f) ≡ 512
+unfolding overlay
+overlay-whole [] base f h l = l
+overlay-whole (w ∷ ws) base f h l = byTest (λ (x : List ℕ). length x ≡ 512) (eqb f (w .frame)) (λ q. h .0) (λ q. overlay-whole ws base f (h .1) l)
+
+-- a directory whose blocks lie in the area has whole ones
+pub stored-whole : (c : List ℕ) (area blocks : ℕ) → length c ≡ 512 * blocks → area < blocks → (es : List Entry) → All (λ e. e .block ≤ area) es → All (λ w. length (w .bytes) ≡ 512) (storedFrames c es)
+unfolding storedFrames
+stored-whole c area blocks long home [] h = tt
+stored-whole c area blocks long home (e ∷ es) h = (block-length c (e .block) (omega (arith, h .0)), stored-whole c area blocks long home es (h .1))
 
 -- ---- an entry removed
 

@@ -10,7 +10,8 @@ use mathlib.Core.Logic.{_⊎_, inl, inr}
 use mathlib.Core.Option.{some}
 use mathlib.Core.Path.{_≡_, refl, ap, sym, _∙_, subst}
 use native.Mathlib.Omega.{arith}
-use Rattle.card.proofs.BlockLaws.{put-same, put-old}
+use Rattle.card.proofs.AllLaws.{all-map}
+use Rattle.card.proofs.BlockLaws.{block-length, put-same, put-old}
 use Rattle.card.proofs.HeaderLaws.{HeaderBack, header-back}
 use Rattle.card.proofs.RangeLaws.{geometry-tells, geometry-numbers}
 use Rattle.card.specs.Block.{blockAt, putBlock, whole}
@@ -20,7 +21,7 @@ use Rattle.card.specs.Range.{Range, geometryFits}
 use Rattle.card.specs.Ring.{ringAt}
 use Rattle.recovery.proofs.Accept.{start-accepts, accepted-card}
 use Rattle.recovery.proofs.Calls.{start-ok, read-present, format-ok}
-use Rattle.recovery.proofs.ContentsLaws.{overlay-first, overlay-long}
+use Rattle.recovery.proofs.ContentsLaws.{overlay-first, overlay-whole, stored-whole}
 use Rattle.recovery.proofs.Follows.{Stored, Follows, stored-by, follows-stored, empty-ordered, sorted-empty, same-committed, Facts, FactsOf, due-facts, size-pending, size-current, count-pending, no-waiting, all-named, tail-below}
 use Rattle.recovery.proofs.FollowsStep.{same-write, some-waits}
 use Rattle.recovery.proofs.GenerationLaws.{out-held}
@@ -66,7 +67,10 @@ format-stored blocks area ranges c whole many small geo head =
 module _ (blocks area : ℕ) (ranges : List Range) where
   -- every kept frame is a whole block
   pub stored-long : (c : List ℕ) (kept : Contents) → Stored blocks area ranges c kept → (f : ℕ) → area < f → f < blocks → length (kept f) ≡ 512
-  stored-long c kept k f l h = rw (← (k .2 .view f l h)) (overlay-long c (k .1 .dir) area (k .1 .first) 0 (k .1 .pagesDown) blocks f (k .2 .whole) (k .2 .home) (k .2 .inside) h)
+  stored-long c kept k f l h =
+      rw (← (k .2 .view f l h)) (overlay-whole (storedFrames c (k .1 .dir)) (blockAt c) f
+      (stored-whole c area blocks (k .2 .whole) (k .2 .home) (k .1 .dir) (all-map _ _ (k .1 .dir) (λ e p. p .1) (k .2 .inside)))
+      (block-length c f (omega (arith, k .2 .whole))))
 
   pub stored-geometry : (c : List ℕ) (kept : Contents) → Stored blocks area ranges c kept → geometryFits blocks area ranges ≡ true
   stored-geometry c kept k = k .2 .geo

@@ -9,7 +9,9 @@ use mathlib.Core.Logic.{_≢_}
 use mathlib.Core.Path.{_≡_, refl, ap, sym, _∙_}
 use native.Mathlib.Decide.{decLt, ℕ-discrete}
 use native.Mathlib.Omega.{arith}
+use Rattle.card.proofs.RingLaws.{ring-high}
 use Rattle.card.proofs.Test.{byTest}
+use Rattle.card.specs.Bytes.{All}
 use Rattle.card.specs.Ring.{ringAt}
 use Rattle.card.specs.declared.directory.Entry.{Entry}
 use Rattle.recovery.proofs.Calls.{rising-remove}
@@ -53,6 +55,13 @@ module _ (area first : ℕ) where
   pub lookup-down : (put : ℕ) (e : Note) (es : List Note) → e .place < put → lookup (e .frame) (downEntries area first put (e ∷ es)) ≡ suc (ringAt area first (e .place))
   unfolding downEntries lookup
   lookup-down put e es h = rw (lt-ltb (e .place) put h, eq-eqb (e .frame) (e .frame) refl)
+
+  -- the blocks of places that are down lie in the area
+  pub down-inside : first ≤ area → (put : ℕ) (es : List Note) → All (λ e. e .place ≤ area) es → All (λ e. e .block ≤ area) (downEntries area first put es)
+  unfolding downEntries
+  down-inside l put [] h = tt
+  down-inside l put (e ∷ es) h =
+      byTest (All (λ x. x .block ≤ area)) (ltb (e .place) put) (λ q. (ring-high area first (e .place) l (h .0), down-inside l put es (h .1))) (λ q. down-inside l put es (h .1))
 
   lookup-none : (put x : ℕ) (es : List Note) → Unnoted x es → lookup x (downEntries area first put es) ≡ 0
   unfolding lookup downEntries

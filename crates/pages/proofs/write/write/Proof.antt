@@ -11,15 +11,16 @@ use mathlib.Core.List.{List}
 use mathlib.Core.Logic.{⊎-elim}
 use mathlib.Core.Path.{_≡_, ap, sym, _∙_}
 use native.Mathlib.Omega.{arith}
-use Rattle.card.proofs.BytesLaws.{copied, patch-length, zeros-length}
+use Rattle.card.proofs.BytesLaws.{patch-length, patch-whole, zeros-length}
 use Rattle.card.specs.Bytes.{patch, zeros}
 use Rattle.card.specs.Pot.{countAt, flagsAt, putFlags, clearZero}
 use Rattle.card.specs.Question.{firstNo}
 use Rattle.frames.specs.Promise.{Lent, lent, common}
 use Rattle.pages.proofs.CallLaws.{write-refused, write-nothing, write-page, write-both}
-use Rattle.pages.proofs.NamedLaws.{searchable, Found, page-readable, pot-readable, small, page-changing, both-changing, page-full, page-empty, common-stops, place-stops, keyAsks, Keyed, key-stops, key-passes}
+use Rattle.pages.proofs.NamedLaws.{searchable, Found, page-readable, pot-readable, page-whole, small, page-changing, both-changing, page-full, page-empty, common-stops, place-stops, keyAsks, Keyed, key-stops, key-passes}
 use Rattle.pages.proofs.write.write.Statement.{statement}
 use Rattle.pages.proofs.write.write.Tie as tie
+use Rattle.pages.specs.Promise.{presentFrames}
 
 -- ---- the questions
 
@@ -96,27 +97,41 @@ returns-4 c =
 
 -- ---- it is clear: the page alone
 
-loaded : (c : tie.After-copy) → c .copy .last .1 .0 ≡ now (c .before .before .load2 .result)
-loaded c =
-    let at-empty = c .before .before .before .before .empty in
-    let long : length (at-empty .result) ≡ 512 = search (at-empty .ok) in
-    copied (now (c .before .before .load2 .result)) (at-empty .result) _ (omega (arith, c .before .before .load2 .ensures .1, long)) (c .copy .ensures .1)
+-- all its bytes are new
+new-long : (c : tie.Then6) → length (begun (c .before .before .before .before .before .before) .args .new .now) ≡ 512
+new-long c = c .if6 .taken
 
-loaded-long : (c : tie.After-copy) → length (c .copy .last .1 .0) ≡ 512
-loaded-long c = ap length (loaded c) ∙ c .before .before .load2 .ensures .1
+returns-5 : tie.Need-returns-5
+returns-5 c =
+    let at-short = c .before .before .before .before .before .before .before in
+    let at-if4 = at-short .before .before .before in
+    let k = keyed (at-if4 .before .before) (at-if4 .before .if3 .left) in
+    let flag = sym (at-short .before .before .is-zero .ensures) ∙ at-short .before .if5 .left in
+    let old-long = page-whole _ _ _ (found (at-if4 .before .before .before .before .before .before)) in
+    let old = presentFrames (lent-to (begun (at-if4 .before .before))) (at-if4 .before .before .before .before .before .before .before .before .find .result .address .page) in
+    let new = begun (at-if4 .before .before) .args .new .now in
+    let all = new-long (c .before .before .before .before .before .before) in
+    let page-is = sym (ap (written at-if4) (page-full _ _ _ (k .pot-is) flag) ∙ patch-whole old (begun (at-if4 .before .before) .args .at) new (omega (arith, fits at-if4, old-long)) (all ∙ sym old-long)) in
+    write-page _ _ _ _ new _ _ k (eqb-false _ 0 (at-if4 .if4 .left)) new all page-is (c .put2 .ensures) flag (at-short .short3 .ensures) (c .before .before .before .change2 .ensures)
+
+-- some are
+page-long : (c : tie.After-array2) → length (c .array2 .result) ≡ 512
+page-long c = ap length (c .array2 .ensures) ∙ c .before .load2 .ensures .1
 
 patched-long : (c : tie.After-patch) → length (c .patch .last .0) ≡ 512
 patched-long c = search needs
 
-returns-5 : tie.Need-returns-5
-returns-5 c =
-    let at-if4 = c .before .before .before .before .before .before .before .before .before .before .before .before .before .before .before .before .before .before .before in
-    let at-patch = c .before .before .before .before .before .before .before .before .before in
+returns-6 : tie.Need-returns-6
+returns-6 c =
+    let at-patch = c .before .before .before .before .before .before .before .before in
+    let at-array = at-patch .before .before in
+    let at-short = at-array .before .before .before .before in
+    let at-if4 = at-short .before .before .before in
     let k = keyed (at-if4 .before .before) (at-if4 .before .if3 .left) in
-    let flag = sym (c .before .before .before .before .before .before .before .before .before .before .before .before .before .before .before .before .before .before .is-zero .ensures) ∙ c .before .before .before .before .before .before .before .before .before .before .before .before .before .before .before .before .before .if5 .left in
-    let page-is = loaded (c .before .before .before .before .before .before .before .before .before .before .before .before) ∙ c .before .before .before .before .before .before .before .before .before .before .before .before .before .before .load2 .ensures .0 ∙ sym (page-full _ _ _ (k .pot-is) flag) in
-    write-page _ _ _ _ (begun (at-if4 .before .before) .args .new .now) _ _ k (eqb-false _ 0 (at-if4 .if4 .left)) _ (patched-long at-patch) (at-patch .patch .ensures ∙ ap (written at-if4) page-is) (c .put2 .ensures) flag
-    (c .before .before .before .before .before .before .before .short3 .ensures) (c .before .before .before .change2 .ensures)
+    let flag = sym (at-short .before .before .is-zero .ensures) ∙ at-short .before .if5 .left in
+    let page-is = at-array .array2 .ensures ∙ at-array .before .load2 .ensures .0 ∙ sym (page-full _ _ _ (k .pot-is) flag) in
+    write-page _ _ _ _ (begun (at-if4 .before .before) .args .new .now) _ _ k (eqb-false _ 0 (at-if4 .if4 .left)) _ (patched-long at-patch) (at-patch .patch .ensures ∙ ap (written at-if4) page-is) (c .put3 .ensures) flag
+    (at-short .short3 .ensures) (c .before .before .before .change3 .ensures)
 
 pub write-spec : {M : Type 1} → statement M
 write-spec =
@@ -148,16 +163,19 @@ write-spec =
     (λ c κs. search needs)
     (λ c. search needs)
     returns-4
-    (λ c κs. search needs)
-    (λ c κs. page-readable _ _ _ (found (c .before .before .before .before .before .before .before .before .before .before)))
+    (λ c κs. omega (arith, small _ _ _ (found (c .before .before .before .before .before .before .before .before)) .0))
     (λ c. search needs)
-    (λ c κs. search needs)
-    (λ c. search needs)
-    (λ c κs. omega (arith, fits (c .before .before .before .before .before .before .before .before .before), loaded-long (c .before .before)))
-    (λ c κs. omega (arith, small _ _ _ (found (c .before .before .before .before .before .before .before .before .before .before .before .before .before .before .before .before .before)) .0))
-    (λ c. search needs)
-    (λ c. search needs)
-    (λ c κs. page-changing _ _ _ (found (c .before .before .before .before .before .before .before .before .before .before .before .before .before .before .before .before .before .before .before .before .before)) (c .before .before .before .short3 .ensures) _ (patched-long (c .before .before .before .before .before)))
+    (λ c κs. page-changing _ _ _ (found (c .before .before .before .before .before .before .before .before .before .before .before .before)) (c .before .before .before .short3 .ensures) _ (new-long (c .before .before)))
     (λ c κs. search needs)
     (λ c. search needs)
-    returns-5)
+    returns-5
+    (λ c κs. page-readable _ _ _ (found (c .before .before .before .before .before .before .before .before .before .before .before)))
+    (λ c κs. search needs)
+    (λ c. search needs)
+    (λ c κs. omega (arith, fits (c .before .before .before .before .before .before .before .before), page-long (c .before)))
+    (λ c. search needs)
+    (λ c. search needs)
+    (λ c κs. page-changing _ _ _ (found (c .before .before .before .before .before .before .before .before .before .before .before .before .before .before .before .before .before .before .before)) (c .before .before .before .before .before .before .before .before .before .before .short3 .ensures) _ (patched-long (c .before .before .before .before)))
+    (λ c κs. search needs)
+    (λ c. search needs)
+    returns-6)
