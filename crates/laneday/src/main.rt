@@ -124,33 +124,33 @@ fn passages(s: Store, card: &[u8], memory: &mut [u8]) -> Store {
     rescind(u, card, memory, 101)
 }
 
-fn commit(s: Store, card: &mut [u8], memory: &[u8]) {
+fn commit(s: Store, card: &mut [u8], memory: &[u8]) -> Store {
     let t = page_out(s, card, memory);
     let u = snapshot(t, card, memory);
-    advance_all(u, card, memory);
+    advance_all(u, card, memory)
 }
 
-fn morning(card: &mut [u8], memory: &mut [u8]) {
-    let s = start(store::zeros(), card, memory);
-    let t = passages(s, card, memory);
-    commit(t, card, memory);
+fn morning(s: Store, card: &mut [u8], memory: &mut [u8]) -> Store {
+    let t = start(s, card, memory);
+    let u = passages(t, card, memory);
+    commit(u, card, memory)
 }
 
-// After a power-up memory holds any bytes, and the record is a new one.
-fn evening(card: &[u8]) {
-    let memory = [255u8; 2048];
-    let t = start(store::zeros(), card, &memory);
-    let u = show(t, card, &memory, 100);
-    show(u, card, &memory, 101);
+// After a power-up memory holds any bytes; start does not read the record that it is lent.
+fn evening<'a>(s: Store, card: &'a [u8], memory: &'a [u8]) -> Store {
+    let t = start(s, card, memory);
+    let u = show(t, card, memory, 100);
+    show(u, card, memory, 101)
 }
 
 fn main() {
     let mut card = [0u8; 10240];
     let mut memory = [0u8; 2048];
+    let unknown = [255u8; 2048];
     print_line(
         b"format",
         call::lane_format(&mut card, 16, &[100, 2]) as u64,
     );
-    morning(&mut card, &mut memory);
-    evening(&card);
+    let s = morning(store::zeros(), &mut card, &mut memory);
+    evening(s, &card, &unknown);
 }
