@@ -39,7 +39,7 @@ static void done(const char *call, size_t refusal)
     exit(1);
 }
 
-/* The file is open with O_DSYNC: what pwrite has written is durable. */
+/* Durable only once the device is flushed. */
 static void put(const controller *c, const uint8_t *bytes, size_t length, size_t block)
 {
     off_t at = (off_t)(block * LANE_BLOCK);
@@ -51,21 +51,27 @@ static void put(const controller *c, const uint8_t *bytes, size_t length, size_t
         fail(what, "only a part was");
 }
 
-/* The header goes last: start refuses a new file without it. */
+static void flush(const controller *c)
+{
+    if (fdatasync(c->file) < 0)
+        fail("the image was not flushed", strerror(errno));
+}
+
+/* Durable before it is used; a cut before that is a card to format again. */
 static void format(controller *c, const char *image)
 {
     const uint32_t range[2] = {FIRST, TAGS};
     done("format", lane_format(c->card, sizeof c->card, AREA, range, 2));
-    c->file = open(image, O_WRONLY | O_CREAT | O_EXCL | O_DSYNC, 0666);
+    c->file = open(image, O_WRONLY | O_CREAT | O_EXCL, 0666);
     if (c->file < 0)
         fail(image, strerror(errno));
-    put(c, c->card + LANE_BLOCK, sizeof c->card - LANE_BLOCK, 1);
-    put(c, c->card, LANE_BLOCK, 0);
+    put(c, c->card, sizeof c->card, 0);
+    flush(c);
 }
 
 static void start(controller *c, const char *image)
 {
-    c->file = open(image, O_RDWR | O_DSYNC);
+    c->file = open(image, O_RDWR);
     if (c->file < 0)
         fail(image, strerror(errno));
     if (pread(c->file, c->card, sizeof c->card, 0) != (ssize_t)sizeof c->card)
@@ -94,24 +100,25 @@ static uint64_t balance(controller *c, uint32_t oid, uint32_t count)
 
 static void report(lane_report r, const char *how)
 {
-    printf("%c %zu %s\n", " PDTMH"[r.kind], r.number, how);
+    printf("%c %zu %s\n", " PDTMHF"[r.kind], r.number, how);
 }
 
-/* Dies as in a power cut: block 0 is still old, any other has no sense in its first half. */
+/* Dies as in a power cut: block 0 is still old, any other has no sense in its first half. A flush is not made. */
 static void cut(const controller *c, lane_report r)
 {
-    if (r.kind != LANE_H) {
+    int whole = r.kind == LANE_H || r.kind == LANE_F;
+    if (!whole) {
         uint8_t torn[LANE_BLOCK];
         memcpy(torn, c->card + r.number * LANE_BLOCK, LANE_BLOCK);
         memset(torn, 0xFF, LANE_BLOCK / 2);
         put(c, torn, LANE_BLOCK, r.number);
     }
-    report(r, r.kind == LANE_H ? "not written" : "torn");
+    report(r, r.kind == LANE_F ? "not flushed" : whole ? "not written" : "torn");
     fflush(stdout);
     kill(getpid(), SIGKILL);
 }
 
-/* The payment is safe once H is written; the M after it only move it home. 0 kills nothing. */
+/* The payment is safe once the F after H is made; the M after it only move it home. 0 kills nothing. */
 static void advance(controller *c, uint64_t kill_at)
 {
     for (uint64_t n = 1;; n++) {
@@ -123,8 +130,13 @@ static void advance(controller *c, uint64_t kill_at)
             done("advance", r.number);
         if (n == kill_at)
             cut(c, r);
-        put(c, c->card + r.number * LANE_BLOCK, LANE_BLOCK, r.number);
-        report(r, "written");
+        if (r.kind == LANE_F) {
+            flush(c);
+            report(r, "flushed");
+        } else {
+            put(c, c->card + r.number * LANE_BLOCK, LANE_BLOCK, r.number);
+            report(r, "written");
+        }
     }
 }
 

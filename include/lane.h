@@ -62,7 +62,8 @@ enum lane_refusal {
     LANE_UNCHANGED = 17,   /* no frame has changed since the last snapshot or start */
     LANE_COMMIT_END = 18,  /* the commit number is 4,294,967,295 */
     LANE_NONE_WAITS = 19,  /* no frame waits */
-    LANE_NOTHING_DUE = 20, /* no block write is due */
+    LANE_NOTHING_DUE = 20, /* no block write and no flush is due */
+    LANE_FLUSH_DUE = 28,   /* the flush after a header write or a start is due */
 };
 
 /* What an advance or a page-out wrote. */
@@ -72,7 +73,8 @@ enum lane_kind {
     LANE_D = 2,       /* a block of its directory */
     LANE_T = 3,       /* its trailer */
     LANE_M = 4,       /* a frame of the committed generation, copied to its home block */
-    LANE_H = 5,       /* the header: the snapshot is committed */
+    LANE_H = 5,       /* the header: the snapshot is committed once it is flushed */
+    LANE_F = 6,       /* a flush, which writes no block: flush the device before the next call */
 };
 
 typedef struct {
@@ -112,8 +114,9 @@ typedef struct {
     lane_changes pending;
     size_t tail;
     lane_changes current;
+    size_t phase;
 } lane_store;
-LANE_SIZE(lane_store, 2760);
+LANE_SIZE(lane_store, 2768);
 
 /* What lane_key answers: LANE_DONE and the present count, or the refusal and 0. */
 typedef struct {

@@ -4,7 +4,7 @@ use Prim.Native.Nat.{ℕ, _+_, _≤_, _<_}
 use borrow.Author.Tests.{lt-ltb, le-ltb, eq-eqb, ne-eqb}
 use lib.Dec.{ltb, eqb}
 use lib.ListN.{length}
-use mathlib.Core.Bool.{Bool, true, false}
+use mathlib.Core.Bool.{not, Bool, true, false}
 use mathlib.Core.List.{List, []}
 use mathlib.Core.Logic.{_≢_}
 use mathlib.Core.Path.{_≡_, refl, ap, sym, _∙_}
@@ -18,9 +18,10 @@ use Rattle.frames.specs.Promise.{lent, commonAsks, start, snapshot, page
 use Rattle.frames.specs.Parts.{WriteDone, StepDone, Started}
 use Rattle.frames.specs.declared.answer.Wrote.{Wrote}
 use Rattle.record.proofs.SoundLaws.{notes-length, queue-length}
-use Rattle.record.specs.Meaning.{waits, notesOf, queueOf, stateOf, zeroStore}
+use Rattle.record.specs.Meaning.{waits, notesOf, queueOf, phaseOf, stateOf, zeroStore}
 use Rattle.record.specs.declared.store.Store.{Store}
 use Rattle.recovery.specs.Questions.{startAsks, snapshotAsks, pageOutAsks}
+use Rattle.recovery.specs.State.{isOwed}
 use Rattle.recovery.specs.Step.{page, pendingTo, currentTo, afterSnapshot, outWrite, outOf, pageOutWrite, afterPageOut}
 
 -- ---- page-out
@@ -40,37 +41,48 @@ module _ (s : Store) (m c : List ℕ) where
     behind : length (queueOf s m (waits (s .pending)) (waits (s .current))) ≡ waits (s .current)
     behind = queue-length s m (waits (s .pending)) (waits (s .current))
 
-    -- none waits: 19
-    pub page-out-none : s .pending .taken ≤ s .pending .down → s .current .taken ≤ s .current .down → FrameKept pageOut (lent s m c) (refused 19) (lent s m c)
-    page-out-none p q = kept-refused pageOut (lent s m c) 19 (asked ∙ no) (λ e. omega (arith, e))
+    -- a flush is owed: 28
+    pub page-out-owed : s .phase ≡ 2 → FrameKept pageOut (lent s m c) (refused 28) (lent s m c)
+    page-out-owed o = kept-refused pageOut (lent s m c) 28 (asked ∙ no) (λ e. omega (arith, e))
       where
-        no : firstNo (pageOutAsks (stateOf s m)) ≡ 19
-        no = unfold pageOutAsks in (asked-no 19 _ [] (le-ltb 0 (length (queueOf s m 0 (waits (s .pending))) + length (queueOf s m (waits (s .pending)) (waits (s .current)))) (omega (arith, waiting, behind, p, q))))
+        no : firstNo (pageOutAsks (stateOf s m)) ≡ 28
+        no = unfold pageOutAsks phaseOf in (asked-no 28 _ _ (rw o refl))
 
-    yes : 0 < waits (s .pending) + waits (s .current) → firstNo (asks pageOut (lent s m c)) ≡ 0
-    yes h = asked ∙ (unfold pageOutAsks in (asked-yes 19 _ [] (lt-ltb 0 (length (queueOf s m 0 (waits (s .pending))) + length (queueOf s m (waits (s .pending)) (waits (s .current)))) (omega (arith, waiting, behind, h))) ∙ none-asked))
+    module _ (calm : isOwed (phaseOf (s .phase)) ≡ false) where
+      none-owed : not (isOwed (phaseOf (s .phase))) ≡ true
+      none-owed = rw calm refl
 
-    -- done: the block and the state are page-out's
-    out-done : (r : Wrote) (card′ : List ℕ) → 0 < waits (s .pending) + waits (s .current) → WriteDone (pageOutWrite (stateOf s m)) (afterPageOut (stateOf s m)) m c r card′
-        → FrameKept pageOut (lent s m c) (wrote page (r .block)) (lent (r .store) m card′)
-    unfolding doneAnswer doneWrite after
-    out-done r card′ h w = kept-done pageOut (lent s m c) (lent (r .store) m card′) (wrote page (r .block)) (yes h) (ap (wrote page) (w .block-is)) (w .card-is) (w .meaning) (w .together) refl
+      -- none waits: 19
+      pub page-out-none : s .pending .taken ≤ s .pending .down → s .current .taken ≤ s .current .down → FrameKept pageOut (lent s m c) (refused 19) (lent s m c)
+      page-out-none p q = kept-refused pageOut (lent s m c) 19 (asked ∙ no) (λ e. omega (arith, e))
+        where
+          no : firstNo (pageOutAsks (stateOf s m)) ≡ 19
+          no = unfold pageOutAsks in (asked-yes 28 _ _ none-owed ∙ asked-no 19 _ [] (le-ltb 0 (length (queueOf s m 0 (waits (s .pending))) + length (queueOf s m (waits (s .pending)) (waits (s .current)))) (omega (arith, waiting, behind, p, q))))
 
-    pub page-out-pending : (r : Wrote) (card′ : List ℕ) → s .pending .down < s .pending .taken
-        → WriteDone (outWrite (s .geometry .area) (stateOf s m .pending)) (pendingTo (outOf (stateOf s m .pending)) (s .tail) (stateOf s m)) m c r card′
-        → FrameKept pageOut (lent s m c) (wrote page (r .block)) (lent (r .store) m card′)
-    page-out-pending r card′ p w = out-done r card′ (omega arith) (due (lt-ltb 0 (length (queueOf s m 0 (waits (s .pending)))) (omega (arith, waiting, p))))
-      where
-        due : ltb 0 (length (queueOf s m 0 (waits (s .pending)))) ≡ true → WriteDone (pageOutWrite (stateOf s m)) (afterPageOut (stateOf s m)) m c r card′
-        due t = unfold pageOutWrite afterPageOut in (rw t w)
+      yes : 0 < waits (s .pending) + waits (s .current) → firstNo (asks pageOut (lent s m c)) ≡ 0
+      yes h = asked ∙ (unfold pageOutAsks in (asked-yes 28 _ _ none-owed ∙ asked-yes 19 _ [] (lt-ltb 0 (length (queueOf s m 0 (waits (s .pending))) + length (queueOf s m (waits (s .pending)) (waits (s .current)))) (omega (arith, waiting, behind, h))) ∙ none-asked))
 
-    pub page-out-current : (r : Wrote) (card′ : List ℕ) → s .pending .taken ≤ s .pending .down → s .current .down < s .current .taken
-        → WriteDone (outWrite (s .geometry .area) (stateOf s m .current)) (currentTo (outOf (stateOf s m .current)) (stateOf s m)) m c r card′
-        → FrameKept pageOut (lent s m c) (wrote page (r .block)) (lent (r .store) m card′)
-    page-out-current r card′ p q w = out-done r card′ (omega arith) (due (le-ltb 0 (length (queueOf s m 0 (waits (s .pending)))) (omega (arith, waiting, p))))
-      where
-        due : ltb 0 (length (queueOf s m 0 (waits (s .pending)))) ≡ false → WriteDone (pageOutWrite (stateOf s m)) (afterPageOut (stateOf s m)) m c r card′
-        due t = unfold pageOutWrite afterPageOut in (rw t w)
+      -- done: the block and the state are page-out's
+      out-done : (r : Wrote) (card′ : List ℕ) → 0 < waits (s .pending) + waits (s .current) → WriteDone (pageOutWrite (stateOf s m)) (afterPageOut (stateOf s m)) m c r card′
+          → FrameKept pageOut (lent s m c) (wrote page (r .block)) (lent (r .store) m card′)
+      unfolding doneAnswer doneWrite after
+      out-done r card′ h w = kept-done pageOut (lent s m c) (lent (r .store) m card′) (wrote page (r .block)) (yes h) (ap (wrote page) (w .block-is)) (w .card-is) (w .meaning) (w .together) refl
+
+      pub page-out-pending : (r : Wrote) (card′ : List ℕ) → s .pending .down < s .pending .taken
+          → WriteDone (outWrite (s .geometry .area) (stateOf s m .pending)) (pendingTo (outOf (stateOf s m .pending)) (s .tail) (stateOf s m)) m c r card′
+          → FrameKept pageOut (lent s m c) (wrote page (r .block)) (lent (r .store) m card′)
+      page-out-pending r card′ p w = out-done r card′ (omega arith) (due (lt-ltb 0 (length (queueOf s m 0 (waits (s .pending)))) (omega (arith, waiting, p))))
+        where
+          due : ltb 0 (length (queueOf s m 0 (waits (s .pending)))) ≡ true → WriteDone (pageOutWrite (stateOf s m)) (afterPageOut (stateOf s m)) m c r card′
+          due t = unfold pageOutWrite afterPageOut in (rw t w)
+
+      pub page-out-current : (r : Wrote) (card′ : List ℕ) → s .pending .taken ≤ s .pending .down → s .current .down < s .current .taken
+          → WriteDone (outWrite (s .geometry .area) (stateOf s m .current)) (currentTo (outOf (stateOf s m .current)) (stateOf s m)) m c r card′
+          → FrameKept pageOut (lent s m c) (wrote page (r .block)) (lent (r .store) m card′)
+      page-out-current r card′ p q w = out-done r card′ (omega arith) (due (le-ltb 0 (length (queueOf s m 0 (waits (s .pending)))) (omega (arith, waiting, p))))
+        where
+          due : ltb 0 (length (queueOf s m 0 (waits (s .pending)))) ≡ false → WriteDone (pageOutWrite (stateOf s m)) (afterPageOut (stateOf s m)) m c r card′
+          due t = unfold pageOutWrite afterPageOut in (rw t w)
 
 -- ---- snapshot
 

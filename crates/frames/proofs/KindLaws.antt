@@ -5,6 +5,7 @@ use borrow.Author.Tests.{lt-ltb, le-ltb, ne-eqb}
 use lib.ListN.{length, getD}
 use mathlib.Core.Bool.{true}
 use mathlib.Core.List.{List, []}
+use mathlib.Core.Logic.{_≢_}
 use mathlib.Core.Path.{_≡_, refl, ap, sym, _∙_}
 use native.Mathlib.Nat.{add-zero, zero-add}
 use native.Mathlib.Numerals.{add-one}
@@ -30,7 +31,7 @@ use Rattle.record.proofs.SoundLaws.{notes-length, ordered, listed-home, queue-l
 use Rattle.record.proofs.Tests.{each-within, apart-once}
 use Rattle.record.specs.Holds.{tailFor}
 use Rattle.record.specs.Lists.{cells, once, allWithin}
-use Rattle.record.specs.Meaning.{waits, sizeOf, notesOf, committedSizeOf, queueOf, pendingFirst, currentFirst, stateOf}
+use Rattle.record.specs.Meaning.{waits, sizeOf, notesOf, committedSizeOf, queueOf, pendingFirst, currentFirst, phaseOf, stateOf}
 use Rattle.record.specs.declared.store.Changes.{Changes}
 use Rattle.record.specs.declared.store.Store.{Store}
 use Rattle.recovery.proofs.Accept.{entries-ok}
@@ -39,8 +40,8 @@ use Rattle.recovery.proofs.OrderedLaws.{long-waiting, same-count}
 use Rattle.recovery.proofs.Sorted.{countOf}
 use Rattle.recovery.specs.Directory.{downEntries, dirOf}
 use Rattle.recovery.specs.Sound.{Home}
-use Rattle.recovery.specs.State.{directoryOf, empty}
-use Rattle.recovery.specs.Step.{Kind, directory, trailer, migration, header, tailBytes, trailerBlockNo, nextMigration, kindWrite, afterKind}
+use Rattle.recovery.specs.State.{directoryOf, empty, owed}
+use Rattle.recovery.specs.Step.{Kind, directory, trailer, migration, header, flush, tailBytes, trailerBlockNo, nextMigration, kindWrite, afterKind}
 
 -- a write and the step on the record that goes with it
 pub kind-done : (k : Kind) (s t : Store) (to : ℕ) (bytes card end : List ℕ) → ((m : List ℕ) → kindWrite k (stateOf s m) card ≡ record { block = to; bytes = bytes })
@@ -62,11 +63,12 @@ countedTo s home down = record {
   pending = s .pending;
   tail = down;
   current = s .current;
+  phase = s .phase;
 }
 
 module _ (s : Store) (h : Held s) where
-  counted-held : (home down : ℕ) → home ≤ s .committed .count → down ≤ tailFor (s .pending .count) → (0 < down → waits (s .pending) ≡ 0) → Held (countedTo s home down)
-  counted-held home down a b c = record {
+  counted-held : (home down : ℕ) → home ≤ s .committed .count → down ≤ tailFor (s .pending .count) → (0 < down → waits (s .pending) ≡ 0) → s .phase ≢ 2 → s .phase ≢ 1 → Held (countedTo s home down)
+  counted-held home down a b c calm early = record {
     geometry = h .geometry;
     first-low = h .first-low;
     first-high = h .first-high;
@@ -86,6 +88,9 @@ module _ (s : Store) (h : Held s) where
     migrated-within = a;
     tail-within = b;
     tail-after = c;
+    phase-known = h .phase-known;
+    flushed-after = λ o. absurd (early o);
+    owed-before = λ o. absurd (calm o);
     head-low = h .head-low;
     seated = h .seated;
     committed = h .committed;
@@ -93,22 +98,23 @@ module _ (s : Store) (h : Held s) where
     current = h .current;
   }
 
-  pub tail-step : waits (s .pending) ≡ 0 → 0 < s .pending .count → s .tail ≤ dirBlocks (s .pending .count) → StepDone (afterKind directory) s (countedTo s (s .migrated) (s .tail + 1))
+  pub tail-step : waits (s .pending) ≡ 0 → 0 < s .pending .count → s .tail ≤ dirBlocks (s .pending .count) → s .phase ≢ 2 → StepDone (afterKind directory) s (countedTo s (s .migrated) (s .tail + 1))
   unfolding afterKind tailFor
-  tail-step still any more = record {
+  tail-step still any more calm = record {
     meaning = λ m. ap (λ (n : ℕ). stateOf (countedTo s (s .migrated) n) m) (add-one (s .tail));
     together = together (countedTo s (s .migrated) (s .tail + 1))
-        (counted-held (s .migrated) (s .tail + 1) (h .migrated-within) (rw (ne-eqb (s .pending .count) 0 (omega (arith, any))) (omega (arith, more))) (λ l. still));
+        (counted-held (s .migrated) (s .tail + 1) (h .migrated-within) (rw (ne-eqb (s .pending .count) 0 (omega (arith, any))) (omega (arith, more))) (λ l. still) calm
+        (λ o. omega (arith, more, (rw (ne-eqb (s .pending .count) 0 (omega (arith, any))) at (h .flushed-after o .1)))));
   }
 
   -- ---- M
 
   module _ (more : s .migrated < s .committed .count) where
-    pub home-step : StepDone (afterKind migration) s (countedTo s (s .migrated + 1) (s .tail))
+    pub home-step : s .phase ≢ 2 → StepDone (afterKind migration) s (countedTo s (s .migrated + 1) (s .tail))
     unfolding afterKind
-    home-step = record {
+    home-step calm = record {
       meaning = λ m. ap (λ (n : ℕ). stateOf (countedTo s n (s .tail)) m) (add-one (s .migrated));
-      together = together (countedTo s (s .migrated + 1) (s .tail)) (counted-held (s .migrated + 1) (s .tail) (omega (arith, more)) (h .tail-within) (h .tail-after));
+      together = together (countedTo s (s .migrated + 1) (s .tail)) (counted-held (s .migrated + 1) (s .tail) (omega (arith, more)) (h .tail-within) (h .tail-after) calm (λ o. omega (arith, more, h .flushed-after o .2)));
     }
 
     -- M copies the entry's block to its frame
@@ -166,6 +172,7 @@ committedTo s first d e = record {
   pending = e;
   tail = 0;
   current = s .current;
+  phase = 2;
 }
 
 -- ---- a pending generation of which no frame waits
@@ -260,6 +267,9 @@ module _ (s : Store) (h : Held s) (still : waits (s .pending) ≡ 0) (any : 0 < 
       migrated-within = omega arith;
       tail-within = omega arith;
       tail-after = λ l. none-waits e z;
+      phase-known = omega arith;
+      flushed-after = λ o. absurd (omega (arith, o));
+      owed-before = λ o. (refl, refl);
       head-low = h .head-low;
       seated = omega (arith, none-waits e z, still, h .seated);
       committed = sorted-fits;
@@ -273,7 +283,7 @@ module _ (s : Store) (h : Held s) (still : waits (s .pending) ≡ 0) (any : 0 < 
     }
 
     pub commit-step : StepDone (afterKind header) s (committedTo s first d e)
-    unfolding afterKind empty
+    unfolding afterKind empty phaseOf
     commit-step = record {
       meaning = λ m i. record {
         blocks = s .geometry .blocks;
@@ -286,6 +296,7 @@ module _ (s : Store) (h : Held s) (still : waits (s .pending) ≡ 0) (any : 0 < 
         pending = pending m i;
         tailDown = 0;
         current = record { first = same-first i; pagesDown = s .current .down; entries = notesOf (s .current); waiting = queue m i };
+        phase = owed;
       };
       together = together (committedTo s first d e) commit-held;
     }
@@ -301,3 +312,65 @@ module _ (s : Store) (h : Held s) (still : waits (s .pending) ≡ 0) (any : 0 < 
 
         queue : (m : List ℕ) → queueOf s m (waits e) (waits (s .current)) ≡ queueOf s m (waits (s .pending)) (waits (s .current))
         queue m = rw (none-waits e z, still) refl
+
+-- ---- F: only how flushes stand changes
+
+abbrev pub phaseTo : Store → ℕ → Store
+phaseTo s phase = record {
+  frames = s .frames;
+  head = s .head;
+  geometry = s .geometry;
+  commit = s .commit;
+  first = s .first;
+  pages = s .pages;
+  committed = s .committed;
+  migrated = s .migrated;
+  pending = s .pending;
+  tail = s .tail;
+  current = s .current;
+  phase = phase;
+}
+
+module _ (s : Store) (h : Held s) where
+  phased-held : (phase : ℕ) → phase ≤ 2 → (phase ≡ 1 → (0 < s .pending .count) × (s .tail ≡ tailFor (s .pending .count)) × (s .committed .count ≤ s .migrated)) → (phase ≡ 2 → ⊥) → Held (phaseTo s phase)
+  phased-held phase known after before = record {
+    geometry = h .geometry;
+    first-low = h .first-low;
+    first-high = h .first-high;
+    none-committed = h .none-committed;
+    some-committed = h .some-committed;
+    committed-few = h .committed-few;
+    commit-limit = h .commit-limit;
+    pending-few = h .pending-few;
+    pending-down = h .pending-down;
+    none-pending = h .none-pending;
+    current-few = h .current-few;
+    current-down = h .current-down;
+    half-committed = h .half-committed;
+    half-pending = h .half-pending;
+    half-current = h .half-current;
+    room = h .room;
+    migrated-within = h .migrated-within;
+    tail-within = h .tail-within;
+    tail-after = h .tail-after;
+    phase-known = known;
+    flushed-after = after;
+    owed-before = λ o. absurd (before o);
+    head-low = h .head-low;
+    seated = h .seated;
+    committed = h .committed;
+    pending = h .pending;
+    current = h .current;
+  }
+
+  pub owed-step : s .phase ≡ 2 → StepDone (afterKind flush) s (phaseTo s 0)
+  unfolding afterKind phaseOf
+  owed-step o = record { meaning = λ m. rw o refl; together = together (phaseTo s 0) (phased-held 0 (omega arith) (λ e. absurd (omega (arith, e))) (λ e. omega (arith, e))) }
+
+  pub flush-step : s .phase ≡ 0 → 0 < s .pending .count → dirBlocks (s .pending .count) < s .tail → s .committed .count ≤ s .migrated → StepDone (afterKind flush) s (phaseTo s 1)
+  unfolding afterKind phaseOf tailFor
+  flush-step z any down home = record {
+    meaning = λ m. rw z refl;
+    together = together (phaseTo s 1)
+        (phased-held 1 (omega arith) (λ e. (any, rw (ne-eqb (s .pending .count) 0 (omega (arith, any))) (omega (arith, down, (rw (ne-eqb (s .pending .count) 0 (omega (arith, any))) at (h .tail-within)))), home)) (λ e. omega (arith, e)));
+  }

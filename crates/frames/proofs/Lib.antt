@@ -16,4 +16,5 @@ pub mod CallLaws
 pub mod DueLaws
 pub mod Run
 pub mod WorldLaws
+pub mod DriveWorld
 pub mod Recovery

@@ -3,7 +3,7 @@
 use Prim.Native.Nat.{ℕ, _+_, _<_}
 use mathlib.Core.Bool.{true}
 use mathlib.Core.List.{List}
-use mathlib.Core.Path.{_≡_, ap, sym, _∙_}
+use mathlib.Core.Path.{_≡_, refl, ap, sym, _∙_}
 use native.Mathlib.Nat.{add-zero}
 use native.Mathlib.Omega.{arith}
 use Rattle.card.proofs.RingLaws.{on-on}
@@ -15,7 +15,7 @@ use Rattle.record.proofs.Held.{Held, held, together}
 use Rattle.record.proofs.NoneLaws.{NoChange, none-means, none-size, none-listed}
 use Rattle.record.proofs.SoundLaws.{current-size}
 use Rattle.record.specs.Holds.{holdsTogether}
-use Rattle.record.specs.Meaning.{waits, sizeOf, notesOf, committedSizeOf, committedOf, pendingFirst, currentFirst, stateOf}
+use Rattle.record.specs.Meaning.{waits, sizeOf, notesOf, committedSizeOf, committedOf, pendingFirst, currentFirst, phaseOf, stateOf}
 use Rattle.record.specs.declared.store.Changes.{Changes}
 use Rattle.record.specs.declared.store.Store.{Store}
 use Rattle.recovery.specs.State.{size, empty}
@@ -35,6 +35,7 @@ marked s e = record {
   pending = s .current;
   tail = 0;
   current = e;
+  phase = s .phase;
 }
 
 module _ (s : Store) (h : Held s) (free : s .pending .count ≡ 0) (e : Changes) (none : NoChange e) where
@@ -56,6 +57,7 @@ module _ (s : Store) (h : Held s) (free : s .pending .count ≡ 0) (e : Changes)
     pending = record { first = pending-first i; pagesDown = s .current .down; entries = notesOf (s .current); waiting = pending-waits i };
     tailDown = 0;
     current = current i;
+    phase = phaseOf (s .phase);
   }
     where
       pending-first : pendingFirst s ≡ currentFirst s
@@ -94,6 +96,9 @@ module _ (s : Store) (h : Held s) (free : s .pending .count ≡ 0) (e : Changes)
     migrated-within = h .migrated-within;
     tail-within = omega arith;
     tail-after = λ l. absurd (omega arith);
+    phase-known = h .phase-known;
+    flushed-after = λ o. absurd (omega (arith, h .flushed-after o .0, free));
+    owed-before = λ o. (h .owed-before o .0, refl);
     head-low = h .head-low;
     seated = omega (arith, h .seated, none .taken);
     committed = h .committed;

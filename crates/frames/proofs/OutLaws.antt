@@ -1,6 +1,7 @@
 -- A waiting frame goes to the card: what the record then means, and that it holds together.
 -- Assumes nothing.
 use Prim.Native.Nat.{ℕ, _+_, _-_, _≤_, _<_}
+use borrow.Author.Tests.{ne-eqb}
 use lib.ListN.{length}
 use mathlib.Core.List.{List, [], tail}
 use mathlib.Core.Path.{_≡_, refl, ap, sym, _∙_}
@@ -15,7 +16,8 @@ use Rattle.frames.proofs.ReadyLaws.{Ready}
 use Rattle.frames.specs.Parts.{WriteDone}
 use Rattle.record.proofs.Held.{Listed, Held, held, together}
 use Rattle.record.proofs.SeatLaws.{seat-low}
-use Rattle.record.specs.Meaning.{waits, notesOf, seatAt, committedOf, pendingFirst, currentFirst, stateOf}
+use Rattle.record.specs.Holds.{tailFor}
+use Rattle.record.specs.Meaning.{waits, notesOf, seatAt, committedOf, pendingFirst, currentFirst, phaseOf, stateOf}
 use Rattle.record.specs.declared.store.Changes.{Changes}
 use Rattle.record.specs.declared.store.Store.{Store}
 use Rattle.recovery.specs.Step.{pendingTo, currentTo, outWrite, outOf}
@@ -26,6 +28,10 @@ oneDown g = record { count = g .count; taken = g .taken; down = g .down + 1; fra
 
 listed-out : (area blocks : ℕ) (g : Changes) → Listed area blocks g → Listed area blocks (oneDown g)
 listed-out area blocks g l = record { home = l .home; single = l .single; taken = l .taken; stands = λ k p q. l .stands k (omega arith) q }
+
+tail-any : (e : ℕ) → 0 < e → 0 < tailFor e
+unfolding tailFor
+tail-any e l = rw (ne-eqb e 0 (omega (arith, l))) (omega arith)
 
 -- the record after the oldest pending frame is down, and after the oldest current one is; next is the head then
 abbrev pub pendingDown : Store → ℕ → Store
@@ -41,6 +47,7 @@ pendingDown s next = record {
   pending = oneDown (s .pending);
   tail = s .tail;
   current = s .current;
+  phase = s .phase;
 }
 
 abbrev pub currentDown : Store → ℕ → Store
@@ -56,6 +63,7 @@ currentDown s next = record {
   pending = s .pending;
   tail = s .tail;
   current = oneDown (s .current);
+  phase = s .phase;
 }
 
 module _ (s : Store) (h : Held s) (next : ℕ) (turn : next ≡ seatAt (s .frames) (s .head) 1) where
@@ -78,6 +86,7 @@ module _ (s : Store) (h : Held s) (next : ℕ) (turn : next ≡ seatAt (s .frame
       pending = record { first = pendingFirst s; pagesDown = add-one (s .pending .down) i; entries = notesOf (s .pending); waiting = rest i };
       tailDown = s .tail;
       current = record { first = currentFirst s; pagesDown = s .current .down; entries = notesOf (s .current); waiting = behind i };
+      phase = phaseOf (s .phase);
     }
       where
         rest : bytesFrom m (s .frames) next 0 (s .pending .taken - (s .pending .down + 1)) ≡ tail (bytesFrom m (s .frames) (s .head) 0 (s .pending .taken - s .pending .down))
@@ -111,6 +120,9 @@ module _ (s : Store) (h : Held s) (next : ℕ) (turn : next ≡ seatAt (s .frame
       migrated-within = h .migrated-within;
       tail-within = h .tail-within;
       tail-after = λ q. absurd (omega (arith, h .tail-after q));
+      phase-known = h .phase-known;
+      flushed-after = λ o. absurd (omega (arith, h .tail-after (omega (arith, h .flushed-after o .1, tail-any (s .pending .count) (h .flushed-after o .0)))));
+      owed-before = h .owed-before;
       head-low = next-low;
       seated = omega (arith, h .seated);
       committed = h .committed;
@@ -134,6 +146,7 @@ module _ (s : Store) (h : Held s) (next : ℕ) (turn : next ≡ seatAt (s .frame
       pending = record { first = pendingFirst s; pagesDown = s .pending .down; entries = notesOf (s .pending); waiting = nothing i };
       tailDown = s .tail;
       current = record { first = currentFirst s; pagesDown = add-one (s .current .down) i; entries = notesOf (s .current); waiting = rest i };
+      phase = phaseOf (s .phase);
     }
       where
         gone : waits (s .pending) ≡ 0
@@ -169,6 +182,9 @@ module _ (s : Store) (h : Held s) (next : ℕ) (turn : next ≡ seatAt (s .frame
       migrated-within = h .migrated-within;
       tail-within = h .tail-within;
       tail-after = h .tail-after;
+      phase-known = h .phase-known;
+      flushed-after = h .flushed-after;
+      owed-before = h .owed-before;
       head-low = next-low;
       seated = omega (arith, h .seated);
       committed = h .committed;

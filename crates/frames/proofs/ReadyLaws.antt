@@ -114,5 +114,5 @@ pub area-block : (s : Store) (memory card : ℕ) → Ready s memory card → (fi
 area-block s memory card r first i to f l e =
     omega (arith, r .card-is, e, ring-high (s .geometry .area) first i f l, bounds s (held s (r .together)) .area-inside)
 
-pub writable : (s : Store) (memory : ℕ) (card : List ℕ) → Ready s memory (length card) → Writable s card
-writable s memory card r = record { together = r .together; card-long = r .card-is; card-few = r .blocks-high }
+pub writable : (s : Store) (memory : ℕ) (card : List ℕ) → Ready s memory (length card) → s .phase ≢ 2 → Writable s card
+writable s memory card r calm = record { together = r .together; card-long = r .card-is; card-few = r .blocks-high; calm = calm }

@@ -6,57 +6,58 @@ use mathlib.Core.Bool.{true}
 use mathlib.Core.List.{List}
 use mathlib.Core.Logic.{_⊎_, inl, inr, ⊎-elim}
 use mathlib.Core.Option.{Option, none, some}
-use mathlib.Core.Path.{_≡_, refl, sym, _∙_, subst}
+use mathlib.Core.Path.{_≡_, refl, _∙_, subst}
 use Rattle.card.specs.Block.{blockAt, whole}
 use Rattle.card.specs.Header.{headerOn}
 use Rattle.card.specs.Question.{firstNo, headerRanges}
 use Rattle.card.specs.Range.{Range}
-use Rattle.frames.proofs.WorldLaws.{Standing, done-keeps, idle, live, standing-stored, standing-follows, LentOk, done-follows, done-common, called-ok, cut-ok}
-use Rattle.frames.specs.Promise.{Lent, meaningOf, common, FrameCall, start, change, snapshot, pageOut, advance, FrameAnswer, done, asks, doneAnswer, doneWrite, outcome, FrameKept, Loads}
+use Rattle.frames.proofs.DriveWorld.{Stands, vacant, serving, stands-preserved, stands-persists, LentOn, called-on, cut-on}
+use Rattle.frames.proofs.WorldLaws.{done-keeps, done-follows, done-common}
+use Rattle.frames.specs.Promise.{Lent, meaningOf, common, FrameCall, start, change, snapshot, pageOut, advance, FrameAnswer, done, asks, doneAnswer, doneWrite, FrameKept, Loads}
 use Rattle.frames.proofs.Run.{told, FrameWorld, startLent, lentTo, FrameStep, called, cutWithin, cutBetween, FrameRun, stays, goes, firstWorld, Serves, FramesRecover, FramesPresent, FramesHold}
 use Rattle.record.specs.Meaning.{zeroStore}
-use Rattle.recovery.proofs.Follows.{Stored, Follows}
+use Rattle.recovery.proofs.Follows.{Follows}
 use Rattle.recovery.proofs.FrameTheorem.{accepted-stored, stored-accepts, reads-present, follows-sound}
+use Rattle.recovery.proofs.Persists.{Preserved, settled-preserved, preserved-stored, preserved-cut}
 use Rattle.recovery.specs.Book.{FrameBook, bookStart}
 use Rattle.recovery.specs.Questions.{startAsks}
 use Rattle.recovery.specs.Sound.{Sound}
-use Rattle.recovery.specs.Write.{Left}
+use Rattle.recovery.specs.Contents.{Contents}
+use Rattle.recovery.specs.Write.{Drive, seen}
 
 module _ (blocks area : ℕ) (ranges : List Range) where
   -- ---- worlds
 
-  abbrev HeldOk : Option Lent → List ℕ → FrameBook → Type 0
-  HeldOk none c b = Stored blocks area ranges c (b .kept)
-  HeldOk (some l) c b = (l .card ≡ c) × Standing blocks area ranges l b
+  abbrev HeldOk : Option Lent → Drive → FrameBook → Option Contents → Type 0
+  HeldOk none v b before = Preserved blocks area ranges v (b .kept) before
+  HeldOk (some l) v b before = (l .card ≡ seen v) × Stands blocks area ranges l v b before
 
   abbrev WorldOk : FrameWorld → Type 0
-  WorldOk w = HeldOk (w .held) (w .card) (w .book)
+  WorldOk w = HeldOk (w .held) (w .drive) (w .book) (w .before)
 
-  held-standing : (w : FrameWorld) (l : Lent) → w .held ≡ some l → WorldOk w → (l .card ≡ w .card) × Standing blocks area ranges l (w .book)
-  held-standing w l e o = subst (λ (h : Option Lent). HeldOk h (w .card) (w .book)) e o
+  held-stands : (w : FrameWorld) (l : Lent) → w .held ≡ some l → WorldOk w → (l .card ≡ seen (w .drive)) × Stands blocks area ranges l (w .drive) (w .book) (w .before)
+  held-stands w l e o = subst (λ (h : Option Lent). HeldOk h (w .drive) (w .book) (w .before)) e o
 
-  world-stored : (w : FrameWorld) → WorldOk w → Stored blocks area ranges (w .card) (w .book .kept)
-  world-stored w o = go (w .held) o
+  world-preserved : (w : FrameWorld) → WorldOk w → Preserved blocks area ranges (w .drive) (w .book .kept) (w .before)
+  world-preserved w o = go (w .held) o
     where
-      go : (h : Option Lent) → HeldOk h (w .card) (w .book) → Stored blocks area ranges (w .card) (w .book .kept)
+      go : (h : Option Lent) → HeldOk h (w .drive) (w .book) (w .before) → Preserved blocks area ranges (w .drive) (w .book .kept) (w .before)
       go none k = k
-      go (some l) k = rw (k .0) at (standing-stored blocks area ranges l (w .book) (k .1))
+      go (some l) k = stands-preserved blocks area ranges l (w .drive) (w .book) (w .before) (k .1)
 
-  lent-ok : (c : FrameCall) (w : FrameWorld) (l : Lent) → lentTo c w ≡ some l → WorldOk w → (l .card ≡ w .card) × LentOk blocks area ranges c l (w .book)
+  lent-ok : (c : FrameCall) (w : FrameWorld) (l : Lent) → lentTo c w ≡ some l → WorldOk w → (l .card ≡ seen (w .drive)) × LentOn blocks area ranges c l (w .drive) (w .book) (w .before)
   lent-ok (start m) w l e o =
-      let l-is : startLent m (w .card) ≡ l = cc in
-      subst (λ (x : Lent). (x .card ≡ w .card) × LentOk blocks area ranges (start m) x (w .book)) l-is (refl, (refl, world-stored w o))
-  lent-ok (change ws) w l e o = held-standing w l e o
-  lent-ok snapshot w l e o = held-standing w l e o
-  lent-ok pageOut w l e o = held-standing w l e o
-  lent-ok advance w l e o = held-standing w l e o
+      let l-is : startLent m (seen (w .drive)) ≡ l = cc in
+      subst (λ (x : Lent). (x .card ≡ seen (w .drive)) × LentOn blocks area ranges (start m) x (w .drive) (w .book) (w .before)) l-is (refl, (refl, world-preserved w o))
+  lent-ok (change ws) w l e o = held-stands w l e o
+  lent-ok snapshot w l e o = held-stands w l e o
+  lent-ok pageOut w l e o = held-stands w l e o
+  lent-ok advance w l e o = held-stands w l e o
 
   step-ok : (u v : FrameWorld) → FrameStep u v → WorldOk u → WorldOk v
-  step-ok u v (called c w l l′ a e asked p) o = (refl, called-ok blocks area ranges l (w .book) c (lent-ok c w l e o .1) asked l′ a p)
-  step-ok u v (cutWithin c w l c′ b′ e asked left cut) o =
-      let q = lent-ok c w l e o in
-      cut-ok blocks area ranges l (w .book) c (q .1) c′ b′ (subst (λ (x : List ℕ). Left (outcome c l .write) x c′) (sym (q .0)) left) cut
-  step-ok u v (cutBetween w) o = world-stored w o
+  step-ok u v (called c w l l′ a e asked p) o = let q = lent-ok c w l e o in called-on blocks area ranges l (w .drive) (w .book) (w .before) (q .0) c (q .1) asked l′ a p
+  step-ok u v (cutWithin c w l c′ reached e asked left r) o = let q = lent-ok c w l e o in cut-on blocks area ranges l (w .drive) (w .book) (w .before) (q .0) c (q .1) c′ reached left r
+  step-ok u v (cutBetween w c′ reached left r) o = preserved-cut blocks area ranges (w .drive) (w .book) (w .before) (world-preserved w o) c′ left reached r
 
   run-ok : (u w : FrameWorld) → FrameRun u w → WorldOk u → WorldOk w
   run-ok u w (stays x) o = o
@@ -75,33 +76,35 @@ module _ (blocks area : ℕ) (ranges : List Range) where
   -- ---- what a world shows
 
   module _ (w : FrameWorld) (o : WorldOk w) where
-    recovers : (m : List ℕ) → whole 4 64 (length m) ≡ true → (a : FrameAnswer) (l : Lent) → FrameKept (start m) (startLent m (w .card)) a l
-        → (a ≡ done) × (l .card ≡ w .card) × Fits l × ((f : ℕ) (x : List ℕ) → (area < f) × (f < blocks) → Loads l f x → x ≡ w .book .kept f)
+    recovers : (m : List ℕ) → whole 4 64 (length m) ≡ true → (a : FrameAnswer) (l : Lent) → FrameKept (start m) (startLent m (seen (w .drive))) a l
+        → (a ≡ done) × (l .card ≡ seen (w .drive)) × Fits l × ((f : ℕ) (x : List ℕ) → (area < f) × (f < blocks) → Loads l f x → x ≡ w .book .kept f)
     unfolding asks doneAnswer doneWrite told
     recovers m h a l p =
-        let k = world-stored w o in
-        let e = stored-accepts blocks area ranges (w .card) (w .book .kept) k m h in
-        let d = done-keeps (start m) (startLent m (w .card)) l a p e in
-        let f = done-follows blocks area ranges (startLent m (w .card)) (w .book) (start m) (refl, k) tt l a p e in
-        (d .0, d .1, fits l _ f (done-common blocks area ranges (startLent m (w .card)) (w .book) (start m) (refl, k) tt l a p e), loads l (bookStart (w .book)) (rw (d .0) at f))
+        let k = preserved-stored blocks area ranges (w .drive) (w .book .kept) (w .before) (world-preserved w o) in
+        let e = stored-accepts blocks area ranges (seen (w .drive)) (w .book .kept) k m h in
+        let d = done-keeps (start m) (startLent m (seen (w .drive))) l a p e in
+        let f = done-follows blocks area ranges (startLent m (seen (w .drive))) (w .book) (start m) (refl, k) tt l a p e in
+        (d .0, d .1, fits l _ f (done-common blocks area ranges (startLent m (seen (w .drive))) (w .book) (start m) (refl, k) tt l a p e), loads l (bookStart (w .book)) (rw (d .0) at f))
 
     module _ (l : Lent) (e : w .held ≡ some l) where
       presents : firstNo (common l) ≡ 0 → (f : ℕ) (x : List ℕ) → (area < f) × (f < blocks) → Loads l f x → x ≡ w .book .present f
-      presents h = loads l (w .book) (standing-follows blocks area ranges l (w .book) (held-standing w l e o .1) h)
+      presents h =
+          let q = held-stands w l e o in
+          loads l (w .book) (rw (q .0) (stands-persists blocks area ranges l (w .drive) (w .book) (w .before) (q .1) h .follows))
 
-      holds : ((l .store ≡ zeroStore) ⊎ Fits l) × (l .card ≡ w .card)
-      holds = let q = held-standing w l e o in (either (q .1), q .0)
+      holds : ((l .store ≡ zeroStore) ⊎ Fits l) × (l .card ≡ seen (w .drive))
+      holds = let q = held-stands w l e o in (either (q .0) (q .1), q .0)
         where
-          either : Standing blocks area ranges l (w .book) → (l .store ≡ zeroStore) ⊎ Fits l
-          either (idle z k) = inl z
-          either (live f h) = inr (fits l (w .book) f h)
+          either : l .card ≡ seen (w .drive) → Stands blocks area ranges l (w .drive) (w .book) (w .before) → (l .store ≡ zeroStore) ⊎ Fits l
+          either c (vacant z k) = inl z
+          either c (serving p h) = inr (fits l (w .book) (rw c (p .follows)) h)
 
 -- ---- the claims
 
 -- the geometry is the first card's
 reached : (m card : List ℕ) → firstNo (startAsks m card) ≡ 0 → (w : FrameWorld) → FrameRun (firstWorld m card) w
     → WorldOk (length card / 512) (headerOn (blockAt card 0) .area) (headerRanges (headerOn (blockAt card 0))) w
-reached m card h w run = run-ok _ _ _ (firstWorld m card) w run (accepted-stored m card h)
+reached m card h w run = run-ok _ _ _ (firstWorld m card) w run (settled-preserved _ _ _ card _ (accepted-stored m card h))
 
 serves : (card : List ℕ) (l : Lent) → Fits (length card / 512) (headerOn (blockAt card 0) .area) (headerRanges (headerOn (blockAt card 0))) l → Serves card l
 serves card l q = record { passes = q .0; sound = q .1; blocks-is = q .2; area-is = q .3; ranges-is = q .4 }

@@ -3,7 +3,7 @@
 -- Assumes nothing.
 use Prim.Native.Nat.{ℕ, _/_, _<_}
 use lib.ListN.{length}
-use mathlib.Core.Bool.{true}
+use mathlib.Core.Bool.{Bool, true}
 use mathlib.Core.List.{List}
 use mathlib.Core.Logic.{_⊎_}
 use mathlib.Core.Option.{Option, none, some}
@@ -14,18 +14,20 @@ use Rattle.card.specs.Header.{headerOn}
 use Rattle.card.specs.Question.{firstNo, headerRanges}
 use Rattle.frames.specs.Promise.{Lent, lent, meaningOf, common, FrameCall, start, change, snapshot, pageOut, advance, FrameAnswer, refused, done, wrote, outcome, FrameKept, Loads}
 use Rattle.record.specs.Meaning.{zeroStore}
-use Rattle.recovery.specs.Book.{FrameBook, bookChange, bookSnapshot, bookStart, bookHeader, bookWrote, WholeFrame}
+use Rattle.recovery.specs.Book.{FrameBook, bookChange, bookSnapshot, bookStart, bookWrote, keptBefore, bookCut, WholeFrame}
+use Rattle.recovery.specs.Contents.{Contents}
 use Rattle.recovery.specs.Questions.{startAsks}
 use Rattle.recovery.specs.Sound.{Sound}
 use Rattle.recovery.specs.State.{readFrame}
-use Rattle.recovery.specs.Step.{startState}
-use Rattle.recovery.specs.Write.{BlockWrite, Left, Reached}
+use Rattle.recovery.specs.Step.{kindDrive, startState}
+use Rattle.recovery.specs.Write.{BlockWrite, Drive, seen, settled, written, Cut, ReachedIs}
 
--- the card, what is held between calls (nothing before the first start and after a cut), and the book of frames
+-- the drive, what is held between calls (nothing before the first start and after a cut), the book of frames, and what was kept before a header write that is not flushed
 pub record FrameWorld : Type 0 where
-  pub card : List ℕ
+  pub drive : Drive
   pub held : Option Lent
   pub book : FrameBook
+  pub before : Option Contents
 
 -- ---- the book, fed by each call's arguments and answer
 
@@ -47,10 +49,17 @@ told snapshot a b = onDone a (bookSnapshot b) b
 told pageOut a b = b
 told advance a b = onWrote a b
 
--- at a cut the book is told whether the header write being made, if any, reached the card
-abbrev pub CutBook : Option BlockWrite → List ℕ → FrameBook → FrameBook → Type 0
-CutBook none c′ b b′ = b′ ≡ b
-CutBook (some w) c′ b b′ = (Reached w c′ × (b′ ≡ bookHeader b)) ⊎ ((Reached w c′ → ⊥) × (b′ ≡ b))
+-- what was kept before a header write that is not flushed
+abbrev pub beforeTold : FrameAnswer → FrameBook → Option Contents → Option Contents
+beforeTold (wrote k n) b o = keptBefore k b o
+beforeTold done b o = o
+beforeTold (refused n) b o = o
+
+-- a call's write joins those that are not flushed; where a flush is reported, the program flushes them
+abbrev pub driveTold : FrameAnswer → Option BlockWrite → Drive → Drive
+driveTold (wrote k n) o v = kindDrive k o v
+driveTold done o v = written o v
+driveTold (refused n) o v = written o v
 
 -- ---- steps
 
@@ -59,7 +68,7 @@ abbrev pub startLent : List ℕ → List ℕ → Lent
 startLent m c = lent zeroStore m c
 
 abbrev pub lentTo : FrameCall → FrameWorld → Option Lent
-lentTo (start m) w = some (startLent m (w .card))
+lentTo (start m) w = some (startLent m (seen (w .drive)))
 lentTo (change ws) w = w .held
 lentTo snapshot w = w .held
 lentTo pageOut w = w .held
@@ -73,13 +82,16 @@ Asked snapshot l = Unit {0}
 Asked pageOut l = Unit {0}
 Asked advance l = Unit {0}
 
--- a call, done or refused, by its own promise; a cut in a call, which leaves its block old, new or torn; a cut between calls
+-- a call, done or refused, by its own promise; a cut in a call, whose write is then one of those that are not flushed; a cut between calls. After a cut nothing is unflushed, and the book is
+-- told whether the header write being made or not flushed, if any, reached the card.
 pub data FrameStep : FrameWorld → FrameWorld → Type 0 where
   called : (c : FrameCall) (w : FrameWorld) (l l′ : Lent) (a : FrameAnswer) → lentTo c w ≡ some l → Asked c l → FrameKept c l a l′
-      → FrameStep w (record { card = l′ .card; held = some l′; book = told c a (w .book) })
-  cutWithin : (c : FrameCall) (w : FrameWorld) (l : Lent) (card′ : List ℕ) (book′ : FrameBook) → lentTo c w ≡ some l → Asked c l
-      → Left (outcome c l .write) (w .card) card′ → CutBook (outcome c l .write) card′ (w .book) book′ → FrameStep w (record { card = card′; held = none; book = book′ })
-  cutBetween : (w : FrameWorld) → FrameStep w (record { card = w .card; held = none; book = w .book })
+      → FrameStep w (record { drive = driveTold a (outcome c l .write) (w .drive); held = some l′; book = told c a (w .book); before = beforeTold a (w .book) (w .before) })
+  cutWithin : (c : FrameCall) (w : FrameWorld) (l : Lent) (card′ : List ℕ) (reached : Bool) → lentTo c w ≡ some l → Asked c l
+      → Cut (w .drive) (outcome c l .write) card′ → ReachedIs (written (outcome c l .write) (w .drive) .since) card′ reached
+      → FrameStep w (record { drive = settled card′; held = none; book = bookCut (w .before) reached (w .book); before = none })
+  cutBetween : (w : FrameWorld) (card′ : List ℕ) (reached : Bool) → Cut (w .drive) none card′ → ReachedIs (w .drive .since) card′ reached
+      → FrameStep w (record { drive = settled card′; held = none; book = bookCut (w .before) reached (w .book); before = none })
 
 pub data FrameRun : FrameWorld → FrameWorld → Type 0 where
   stays : (w : FrameWorld) → FrameRun w w
@@ -87,12 +99,13 @@ pub data FrameRun : FrameWorld → FrameWorld → Type 0 where
 
 -- ---- the claims
 
--- a card that a start accepts, with what that start shows as its book
+-- a card that a start accepts, all of it flushed, with what that start shows as its book
 abbrev pub firstWorld : List ℕ → List ℕ → FrameWorld
 firstWorld m card = record {
-  card = card;
+  drive = settled card;
   held = none;
   book = record { present = readFrame (startState m card) card; marked = none; kept = readFrame (startState m card) card };
+  before = none;
 }
 
 -- a home frame of a card
@@ -110,8 +123,8 @@ pub record Serves (card : List ℕ) (l : Lent) : Type 0 where
 -- after any list of calls and cuts a start accepts, writes nothing, and loads show what the book keeps
 abbrev pub FramesRecover : Type 0
 FramesRecover = (m₀ card : List ℕ) → firstNo (startAsks m₀ card) ≡ 0 → (w : FrameWorld) → FrameRun (firstWorld m₀ card) w
-    → (m : List ℕ) → whole 4 64 (length m) ≡ true → (a : FrameAnswer) (l : Lent) → FrameKept (start m) (startLent m (w .card)) a l
-    → (a ≡ done) × (l .card ≡ w .card) × Serves card l × ((f : ℕ) (x : List ℕ) → HomeFrame card f → Loads l f x → x ≡ w .book .kept f)
+    → (m : List ℕ) → whole 4 64 (length m) ≡ true → (a : FrameAnswer) (l : Lent) → FrameKept (start m) (startLent m (seen (w .drive))) a l
+    → (a ≡ done) × (l .card ≡ seen (w .drive)) × Serves card l × ((f : ℕ) (x : List ℕ) → HomeFrame card f → Loads l f x → x ≡ w .book .kept f)
 
 -- where a record is held that passes questions 1 to 3, loads show what is present
 abbrev pub FramesPresent : Type 0
@@ -121,4 +134,4 @@ FramesPresent = (m₀ card : List ℕ) → firstNo (startAsks m₀ card) ≡ 0 �
 -- what is held serves, unless it is the record of zeros that a refused start handed out; its card is the world's
 abbrev pub FramesHold : Type 0
 FramesHold = (m₀ card : List ℕ) → firstNo (startAsks m₀ card) ≡ 0 → (w : FrameWorld) → FrameRun (firstWorld m₀ card) w
-    → (l : Lent) → w .held ≡ some l → ((l .store ≡ zeroStore) ⊎ Serves card l) × (l .card ≡ w .card)
+    → (l : Lent) → w .held ≡ some l → ((l .store ≡ zeroStore) ⊎ Serves card l) × (l .card ≡ seen (w .drive))

@@ -28,10 +28,10 @@ use Rattle.frames.specs.Parts.{Startable, Started}
 use Rattle.record.proofs.Held.{Held, together}
 use Rattle.record.proofs.NoneLaws.{NoChange, none-means, none-size, none-listed}
 use Rattle.record.proofs.SoundLaws.{committed-size}
-use Rattle.record.specs.Meaning.{waits, committedOf, pendingFirst, currentFirst, stateOf}
+use Rattle.record.specs.Meaning.{waits, committedOf, pendingFirst, currentFirst, phaseOf, stateOf}
 use Rattle.record.specs.declared.store.Changes.{Changes}
 use Rattle.record.specs.declared.store.Store.{Store}
-use Rattle.recovery.specs.State.{committedSize, empty}
+use Rattle.recovery.specs.State.{committedSize, empty, owed}
 use Rattle.recovery.specs.Step.{startCommitted, startState}
 
 -- the record of what was read, with p pending and q current
@@ -48,6 +48,7 @@ startStore memory card c p q = record {
   pending = p;
   tail = 0;
   current = q;
+  phase = 2;
 }
 
 module _ (memory card : List ℕ) (c : Checkpoint) (ok : Startable memory card c) where
@@ -122,7 +123,7 @@ module _ (memory card : List ℕ) (c : Checkpoint) (ok : Startable memory card c
 
   module _ (p q : Changes) (p-none : NoChange p) (q-none : NoChange q) where
     start-meaning : stateOf (startStore memory card c p q) memory ≡ startState memory card
-    unfolding startState startCommitted
+    unfolding startState startCommitted phaseOf
     start-meaning = λ i. record {
       blocks = length card / 512;
       area = header-is i .area;
@@ -134,6 +135,7 @@ module _ (memory card : List ℕ) (c : Checkpoint) (ok : Startable memory card c
       pending = pending i;
       tailDown = 0;
       current = current i;
+      phase = owed;
     }
       where
         committed : committedOf (startStore memory card c p q) ≡ startCommitted card
@@ -176,6 +178,9 @@ module _ (memory card : List ℕ) (c : Checkpoint) (ok : Startable memory card c
           migrated-within = omega arith;
           tail-within = omega arith;
           tail-after = λ l. absurd (omega arith);
+          phase-known = omega arith;
+          flushed-after = λ o. absurd (omega (arith, o));
+          owed-before = λ o. (refl, refl);
           head-low = omega (arith, long .1 .0);
           seated = omega (arith, p-none .taken, q-none .taken);
           committed = told .fits;

@@ -1,4 +1,4 @@
--- What a call or a cut in it leaves, of what a world may hold: a card, and a record that follows the book of frames or that of zeros.
+-- What a call leaves of what is held: a card, and a record that follows the book of frames or that of zeros.
 -- Assumes nothing.
 use Prim.Native.Nat.{ℕ, zero, suc, _*_, _/_}
 use borrow.Author.Tests.{eq-eqb}
@@ -6,7 +6,6 @@ use lib.Dec.{ltb, eqb}
 use lib.ListN.{length}
 use mathlib.Core.Bool.{true, _&&_, false≢true}
 use mathlib.Core.List.{List, [], _++_}
-use mathlib.Core.Logic.{_≢_, ⊎-elim}
 use mathlib.Core.Option.{Option, none, some}
 use mathlib.Core.Path.{_≡_, refl, ap, sym, _∙_, subst}
 use native.Mathlib.Omega.{arith}
@@ -17,20 +16,20 @@ use Rattle.card.specs.Block.{whole}
 use Rattle.card.specs.Bytes.{All}
 use Rattle.card.specs.Question.{Question, firstNo}
 use Rattle.card.specs.Range.{Range}
-use Rattle.frames.proofs.KeepLaws.{outcome-done, outcome-refused, done-tells, refused-tells}
+use Rattle.frames.proofs.KeepLaws.{done-tells, refused-tells}
 use Rattle.frames.proofs.ReadyLaws.{whole-said, has-frames, no-zeros, common-both}
-use Rattle.frames.specs.Promise.{Lent, meaningOf, common, FrameCall, start, change, snapshot, pageOut, advance, FrameAnswer, refused, asks, advanceAnswer, advanceWrite, advanced, doneAnswer, doneWrite, after, outcome, handedBack, FrameKept}
-use Rattle.frames.proofs.Run.{told, CutBook, Asked}
+use Rattle.frames.specs.Promise.{Lent, meaningOf, common, FrameCall, start, change, snapshot, pageOut, advance, FrameAnswer, refused, asks, advanceAnswer, advanceWrite, advanced, doneAnswer, doneWrite, after, handedBack, FrameKept}
+use Rattle.frames.proofs.Run.{told, Asked}
 use Rattle.record.specs.Holds.{holdsTogether}
 use Rattle.record.specs.Meaning.{zeroStore}
 use Rattle.recovery.proofs.Follows.{Stored, Follows, follows-stored, follows-card}
 use Rattle.recovery.proofs.FollowsStep.{follows-change, follows-snapshot, follows-advance, follows-out}
-use Rattle.recovery.proofs.FrameTheorem.{stored-start, cut-out, cut-advance}
+use Rattle.recovery.proofs.FrameTheorem.{stored-start}
 use Rattle.recovery.specs.Book.{FrameBook, WholeFrame}
 use Rattle.recovery.specs.Questions.{startAsks, heldAsks, roomAsks, snapshotAsks, pageOutAsks, given, advanceAsks}
 use Rattle.recovery.specs.State.{State}
-use Rattle.recovery.specs.Step.{afterChange, afterSnapshot, Kind, page, directory, trailer, migration, header, afterKind, advanceDue, afterPageOut, startState}
-use Rattle.recovery.specs.Write.{BlockWrite, putDown, Left}
+use Rattle.recovery.specs.Step.{afterChange, afterSnapshot, Kind, page, directory, trailer, migration, header, flush, afterKind, advanceDue, afterPageOut, startState}
+use Rattle.recovery.specs.Write.{putDown}
 
 -- ---- a call that is done
 
@@ -38,7 +37,7 @@ pub done-keeps : (c : FrameCall) (l l′ : Lent) (a : FrameAnswer) → FrameKept
 done-keeps c l l′ a p e = done-tells (firstNo (asks c l)) (doneAnswer c l) (refused (firstNo (asks c l))) (doneWrite c l) (after c l) p e
 
 -- a refused call is no news to the book
-told-refused : (c : FrameCall) (n : ℕ) (b : FrameBook) → told c (refused n) b ≡ b
+pub told-refused : (c : FrameCall) (n : ℕ) (b : FrameBook) → told c (refused n) b ≡ b
 unfolding told
 told-refused (start m) n b = refl
 told-refused (change ws) n b = refl
@@ -48,7 +47,7 @@ told-refused advance n b = refl
 
 -- ---- questions 1 to 3
 
-zeros-refused : (l : Lent) → l .store ≡ zeroStore → firstNo (common l) ≡ 0 → ⊥
+pub zeros-refused : (l : Lent) → l .store ≡ zeroStore → firstNo (common l) ≡ 0 → ⊥
 zeros-refused l z h = no-zeros (l .store) (has-frames l h) z
 
 -- question 1: whole memory frames, as many as are said
@@ -64,7 +63,7 @@ due-some : (o : Option Kind) → given o ≡ true → (k : Kind) × (o ≡ some 
 due-some none e = absurd (false≢true e)
 due-some (some k) e = (k, refl)
 
-advance-due : (s : State) → firstNo (advanceAsks s) ≡ 0 → (k : Kind) × (advanceDue s ≡ some k)
+pub advance-due : (s : State) → firstNo (advanceAsks s) ≡ 0 → (k : Kind) × (advanceDue s ≡ some k)
 unfolding advanceAsks
 advance-due s h = due-some (advanceDue s) (passed-both 19 (given (advanceDue s)) [] h .0)
 
@@ -77,6 +76,7 @@ kind-frames directory s = refl
 kind-frames trailer s = refl
 kind-frames migration s = refl
 kind-frames header s = refl
+kind-frames flush s = refl
 
 advanced-frames : (o : Option Kind) (s : State) → advanced o s .memoryFrames ≡ s .memoryFrames
 unfolding advanced
@@ -199,23 +199,6 @@ module _ (blocks area : ℕ) (ranges : List Range) where
         let d = advance-due (meaningOf l) (q .1) in
         rw (d .1) (follows-advance blocks area ranges (meaningOf l) (l .card) b (q .0) (d .0) (d .1))
 
-    -- cut off: only advance writes a header
-    lent-cut : (c : FrameCall) → LentOk c l b → firstNo (asks c l) ≡ 0 → (c′ : List ℕ) (b′ : FrameBook) → Left (doneWrite c l) (l .card) c′ → CutBook (doneWrite c l) c′ b b′
-        → Stored blocks area ranges c′ (b′ .kept)
-    unfolding asks doneWrite advanceWrite
-    lent-cut (start m) o h c′ b′ left cut = rw (left, cut) (lent-stored (start m) o)
-    lent-cut (change ws) o h c′ b′ left cut = rw (left, cut) (lent-stored (change ws) o)
-    lent-cut snapshot o h c′ b′ left cut = rw (left, cut) (lent-stored snapshot o)
-    lent-cut pageOut o h c′ b′ left cut =
-        let q = own-follows (pageOutAsks (meaningOf l)) o h in
-        let t = cut-out blocks area ranges (meaningOf l) (l .card) b (q .0) (q .1) c′ left in
-        ⊎-elim (λ r. absurd (t .1 (r .0))) (λ r. rw (r .1) (t .0)) cut
-    lent-cut advance o h c′ b′ left cut =
-        let q = own-follows (advanceAsks (meaningOf l)) o h in
-        let d = advance-due (meaningOf l) (q .1) in
-        let t = cut-advance blocks area ranges (meaningOf l) (l .card) b (q .0) (d .0) (d .1) c′ (rw (d .1) at left) in
-        ⊎-elim (λ r. rw (r .1) (t .0 (r .0))) (λ r. rw (r .1) (t .1 (r .0))) (rw (d .1) at cut)
-
     -- ---- with its promise
 
     module _ (c : FrameCall) (o : LentOk c l b) where
@@ -227,7 +210,7 @@ module _ (blocks area : ℕ) (ranges : List Range) where
           let q = passes-again c l l′ a (lent-memory c o) p e in
           follows-common l′ (told c a b) (done-follows asked l′ a p e) (q .0) (q .1)
 
-      -- what a call hands back, and what a cut in it leaves
+      -- what a call hands back
       pub called-ok : Asked c l → (l′ : Lent) (a : FrameAnswer) → FrameKept c l a l′ → Standing blocks area ranges l′ (told c a b)
       called-ok asked l′ a p = go (firstNo (asks c l)) refl
         where
@@ -236,17 +219,3 @@ module _ (blocks area : ℕ) (ranges : List Range) where
           go (suc k) e =
               let r = refused-tells (firstNo (asks c l)) (doneAnswer c l) (refused (firstNo (asks c l))) (doneWrite c l) (after c l) p (λ q. omega (arith, e, q)) in
               rw (r .0, told-refused c (firstNo (asks c l)) b, r .1) (lent-back c o)
-
-      pub cut-ok : (c′ : List ℕ) (b′ : FrameBook) → Left (outcome c l .write) (l .card) c′ → CutBook (outcome c l .write) c′ b b′ → Stored blocks area ranges c′ (b′ .kept)
-      cut-ok c′ b′ left cut = go (firstNo (asks c l)) refl
-        where
-          go : (n : ℕ) → firstNo (asks c l) ≡ n → Stored blocks area ranges c′ (b′ .kept)
-          go zero e =
-              let w : outcome c l .write ≡ doneWrite c l = outcome-done _ (doneAnswer c l) (refused (firstNo (asks c l))) _ (after c l) e .1 in
-              lent-cut c o e c′ b′ (subst (λ (x : Option BlockWrite). Left x (l .card) c′) w left) (subst (λ (x : Option BlockWrite). CutBook x c′ b b′) w cut)
-          go (suc k) e =
-              let z : firstNo (asks c l) ≢ 0 = λ q. omega (arith, e, q) in
-              let w : outcome c l .write ≡ none = outcome-refused _ (doneAnswer c l) (refused (firstNo (asks c l))) (doneWrite c l) (after c l) z .1 in
-              let same : c′ ≡ l .card = subst (λ (x : Option BlockWrite). Left x (l .card) c′) w left in
-              let same-book : b′ ≡ b = subst (λ (x : Option BlockWrite). CutBook x c′ b b′) w cut in
-              rw (same, same-book) (lent-stored c o)

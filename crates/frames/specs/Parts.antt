@@ -4,6 +4,7 @@ use Prim.Native.Nat.{ℕ, _+_, _*_, _≤_, _<_}
 use lib.ListN.{length, getD}
 use mathlib.Core.Bool.{true, false, cond}
 use mathlib.Core.List.{List, [], _∷_}
+use mathlib.Core.Logic.{_≢_}
 use mathlib.Core.Path.{_≡_}
 use Rattle.card.specs.Block.{blockAt, putBlock, whole}
 use Rattle.card.specs.Bytes.{tabulate}
@@ -42,11 +43,12 @@ pub record WriteDone (w : BlockWrite) (next : State) (memory card : List ℕ) (r
 abbrev pub KindDone : Kind → Store → List ℕ → Wrote → List ℕ → Type 0
 KindDone k s card r after = (memory : List ℕ) → WriteDone (kindWrite k (stateOf s memory) card) (afterKind k (stateOf s memory)) memory card r after
 
--- what a write to the card may rest on
+-- what a write of advance may rest on: no flush is owed
 pub record Writable (s : Store) (card : List ℕ) : Type 0 where
   pub together : holdsTogether s ≡ true
   pub card-long : length card ≡ 512 * s .geometry .blocks
   pub card-few : s .geometry .blocks ≤ 65536
+  pub calm : s .phase ≢ 2
 
 -- a step on the record alone
 pub record StepDone (next : State → State) (s t : Store) : Type 0 where
@@ -107,6 +109,7 @@ withCurrent s g = record {
   pending = s .pending;
   tail = s .tail;
   current = g;
+  phase = s .phase;
 }
 
 -- with that size, and its entries in these arrays

@@ -9,14 +9,14 @@ use mathlib.Core.Option.{Option, none, some}
 use mathlib.Core.Path.{_≡_}
 use Rattle.card.specs.Question.{Question, firstNo}
 use Rattle.frames.specs.declared.answer.Advance.{Advance}
-use Rattle.frames.specs.declared.answer.Advance.the-variants.{P, D, T, M, H, Refused}
+use Rattle.frames.specs.declared.answer.Advance.the-variants.{P, D, T, M, H, F, Refused}
 use Rattle.record.specs.Holds.{holdsTogether}
 use Rattle.record.specs.Meaning.{stateOf, zeroStore}
 use Rattle.record.specs.declared.store.Store.{Store}
 use Rattle.recovery.specs.Contents.{FrameBytes}
 use Rattle.recovery.specs.Questions.{startAsks, heldAsks, roomAsks, snapshotAsks, pageOutAsks, advanceAsks}
 use Rattle.recovery.specs.State.{State, readFrame}
-use Rattle.recovery.specs.Step.{afterChange, afterSnapshot, Kind, page, directory, trailer, migration, header, kindWrite, afterKind, advanceDue, pageOutWrite, afterPageOut, startState}
+use Rattle.recovery.specs.Step.{afterChange, afterSnapshot, Kind, page, directory, trailer, migration, header, flush, kindWrite, kindPut, afterKind, advanceDue, pageOutWrite, afterPageOut, startState}
 use Rattle.recovery.specs.Write.{BlockWrite, putDown}
 
 -- what is lent to a call: the record, memory, the card
@@ -88,7 +88,7 @@ advanceAnswer (some k) l = wrote k (kindWrite k (meaningOf l) (l .card) .block)
 
 unfoldable pub advanceWrite : Option Kind → Lent → Option BlockWrite
 advanceWrite none l = none
-advanceWrite (some k) l = some (kindWrite k (meaningOf l) (l .card))
+advanceWrite (some k) l = kindPut k (kindWrite k (meaningOf l) (l .card))
 
 unfoldable pub advanced : Option Kind → State → State
 advanced none s = s
@@ -140,6 +140,7 @@ reported (D n) = wrote directory n
 reported (T n) = wrote trailer n
 reported (M n) = wrote migration n
 reported (H n) = wrote header n
+reported (F n) = wrote flush n
 reported (Refused n) = refused n
 
 -- a load of a frame fills x with the frame's newest bytes

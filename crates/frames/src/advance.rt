@@ -1,5 +1,5 @@
-// Advance: one block write. With a snapshot pending its waiting frames (P), directory (D), trailer (T), what is left of the committed generation's migration
-// (M), header (H); with none pending only M.
+// Advance: one block write or a flush. With a snapshot pending its waiting frames (P), directory (D), trailer (T), what is left of the committed generation's migration
+// (M), a flush (F), header (H); with none pending only M. Just after a header write and after a start a flush comes before all else.
 use super::answer::Advance;
 use super::answer::Advanced;
 use super::kind;
@@ -7,6 +7,7 @@ use super::page_out;
 use super::question;
 use record::store::Store;
 ghost use mathlib.Core.Path.{_≡_};
+ghost use mathlib.Core.Logic.{_≢_};
 ghost use Prim.Native.Nat.{_<_};
 ghost use lib.ListN.{length};
 ghost use Rattle.card.specs.Question.{firstNo};
@@ -16,7 +17,7 @@ ghost use Rattle.frames.specs.Promise.{commonAsks, advance, lent, report
 
 // With none pending.
 fn migration_due(s: Store, card: &mut [u8], memory: &[u8]) -> Advanced
-    requires { ⌜ (firstNo (commonAsks s (length (now memory)) (length (now card))) ≡ 0) × (s .pending .count ≡ 0) ⌝ }
+    requires { ⌜ (firstNo (commonAsks s (length (now memory)) (length (now card))) ≡ 0) × ((s .pending .count ≡ 0) × (s .phase ≢ 2)) ⌝ }
     ensures { λ r. ⌜ FrameKept advance (lent s (now (memory .entry)) (now (card .entry))) (reported (r .answer)) (lent (r .store) (now (memory .entry)) (now (card .exit))) ⌝ }
 {
     if s.migrated < s.committed.count {
@@ -35,7 +36,7 @@ fn migration_due(s: Store, card: &mut [u8], memory: &[u8]) -> Advanced
 
 // With a snapshot pending, directory and trailer down.
 fn header_due(s: Store, card: &mut [u8], memory: &[u8]) -> Advanced
-    requires { ⌜ (firstNo (commonAsks s (length (now memory)) (length (now card))) ≡ 0) × ((waits (s .pending) ≡ 0) × ((0 < s .pending .count) × (dirBlocks (s .pending .count) < s .tail))) ⌝ }
+    requires { ⌜ (firstNo (commonAsks s (length (now memory)) (length (now card))) ≡ 0) × ((waits (s .pending) ≡ 0) × ((0 < s .pending .count) × ((dirBlocks (s .pending .count) < s .tail) × (s .phase ≢ 2)))) ⌝ }
     ensures { λ r. ⌜ FrameKept advance (lent s (now (memory .entry)) (now (card .entry))) (reported (r .answer)) (lent (r .store) (now (memory .entry)) (now (card .exit))) ⌝ }
 {
     if s.migrated < s.committed.count {
@@ -43,6 +44,13 @@ fn header_due(s: Store, card: &mut [u8], memory: &[u8]) -> Advanced
         let t = w.store;
         return Advanced {
             answer: Advance::M(w.block),
+            store: t,
+        };
+    }
+    if s.phase == 0 {
+        let t = kind::flush_all(s);
+        return Advanced {
+            answer: Advance::F(0),
             store: t,
         };
     }
@@ -56,7 +64,7 @@ fn header_due(s: Store, card: &mut [u8], memory: &[u8]) -> Advanced
 
 // With a snapshot pending of which no frame waits.
 fn tail_due(s: Store, card: &mut [u8], memory: &[u8]) -> Advanced
-    requires { ⌜ (firstNo (commonAsks s (length (now memory)) (length (now card))) ≡ 0) × ((waits (s .pending) ≡ 0) × (0 < s .pending .count)) ⌝ }
+    requires { ⌜ (firstNo (commonAsks s (length (now memory)) (length (now card))) ≡ 0) × ((waits (s .pending) ≡ 0) × ((0 < s .pending .count) × (s .phase ≢ 2))) ⌝ }
     ensures { λ r. ⌜ FrameKept advance (lent s (now (memory .entry)) (now (card .entry))) (reported (r .answer)) (lent (r .store) (now (memory .entry)) (now (card .exit))) ⌝ }
 {
     let blocks = (s.pending.count + 63) / 64;
@@ -79,16 +87,11 @@ fn tail_due(s: Store, card: &mut [u8], memory: &[u8]) -> Advanced
     header_due(s, card, memory)
 }
 
-pub fn advance(s: Store, card: &mut [u8], memory: &[u8]) -> Advanced
+// Where no flush is owed.
+fn work_due(s: Store, card: &mut [u8], memory: &[u8]) -> Advanced
+    requires { ⌜ (firstNo (commonAsks s (length (now memory)) (length (now card))) ≡ 0) × (s .phase ≢ 2) ⌝ }
     ensures { λ r. ⌜ FrameKept advance (lent s (now (memory .entry)) (now (card .entry))) (reported (r .answer)) (lent (r .store) (now (memory .entry)) (now (card .exit))) ⌝ }
 {
-    let no = question::common(s, memory.len(), card.len());
-    if no != 0 {
-        return Advanced {
-            answer: Advance::Refused(no),
-            store: s,
-        };
-    }
     if s.pending.count == 0 {
         return migration_due(s, card, memory);
     }
@@ -101,4 +104,25 @@ pub fn advance(s: Store, card: &mut [u8], memory: &[u8]) -> Advanced
         };
     }
     tail_due(s, card, memory)
+}
+
+// A flush that is owed comes before all else.
+pub fn advance(s: Store, card: &mut [u8], memory: &[u8]) -> Advanced
+    ensures { λ r. ⌜ FrameKept advance (lent s (now (memory .entry)) (now (card .entry))) (reported (r .answer)) (lent (r .store) (now (memory .entry)) (now (card .exit))) ⌝ }
+{
+    let no = question::common(s, memory.len(), card.len());
+    if no != 0 {
+        return Advanced {
+            answer: Advance::Refused(no),
+            store: s,
+        };
+    }
+    if s.phase == 2 {
+        let t = kind::flush_owed(s);
+        return Advanced {
+            answer: Advance::F(0),
+            store: t,
+        };
+    }
+    work_due(s, card, memory)
 }

@@ -12,16 +12,17 @@ use record::list;
 use record::store::Store;
 ghost use mathlib.Core.Path.{_≡_};
 ghost use mathlib.Core.Bool.{true};
+ghost use mathlib.Core.Logic.{_≢_};
 ghost use Prim.Native.Nat.{_≤_, _<_};
 ghost use Rattle.card.specs.Ring.{dirBlocks};
 ghost use Rattle.record.specs.Holds.{holdsTogether};
 ghost use Rattle.record.specs.Meaning.{waits};
-ghost use Rattle.recovery.specs.Step.{directory, trailer, migration, header, afterKind};
+ghost use Rattle.recovery.specs.Step.{directory, trailer, migration, header, flush, afterKind};
 ghost use Rattle.frames.specs.Parts.{KindDone, StepDone, Writable};
 
 // One block more of the pending directory and trailer is down.
 fn tail_down(s: Store) -> Store
-    requires { ⌜ (holdsTogether s ≡ true) × ((waits (s .pending) ≡ 0) × ((0 < s .pending .count) × (s .tail ≤ dirBlocks (s .pending .count)))) ⌝ }
+    requires { ⌜ (holdsTogether s ≡ true) × ((waits (s .pending) ≡ 0) × ((0 < s .pending .count) × ((s .tail ≤ dirBlocks (s .pending .count)) × (s .phase ≢ 2)))) ⌝ }
     ensures { λ t. ⌜ StepDone (afterKind directory) s t ⌝ }
 {
     let next = s.tail + 1;
@@ -89,7 +90,7 @@ pub fn migrate(s: Store, card: &mut [u8]) -> Wrote
     }
 }
 
-// The pending generation is the committed one.
+// The pending generation is the committed one, and a flush is owed.
 fn commit(s: Store) -> Store
     requires { ⌜ (holdsTogether s ≡ true) × ((waits (s .pending) ≡ 0) × (0 < s .pending .count)) ⌝ }
     ensures { λ t. ⌜ StepDone (afterKind header) s t ⌝ }
@@ -108,6 +109,27 @@ fn commit(s: Store) -> Store
     t.pending.taken = 0;
     t.pending.down = 0;
     t.tail = 0;
+    t.phase = 2;
+    t
+}
+
+// F, the one that is owed after a header write or a start.
+pub fn flush_owed(s: Store) -> Store
+    requires { ⌜ (holdsTogether s ≡ true) × (s .phase ≡ 2) ⌝ }
+    ensures { λ t. ⌜ StepDone (afterKind flush) s t ⌝ }
+{
+    let mut t = s;
+    t.phase = 0;
+    t
+}
+
+// F, the one before a header write: all that it is to cover is down.
+pub fn flush_all(s: Store) -> Store
+    requires { ⌜ (holdsTogether s ≡ true) × ((s .phase ≡ 0) × ((0 < s .pending .count) × ((dirBlocks (s .pending .count) < s .tail) × (s .committed .count ≤ s .migrated)))) ⌝ }
+    ensures { λ t. ⌜ StepDone (afterKind flush) s t ⌝ }
+{
+    let mut t = s;
+    t.phase = 1;
     t
 }
 

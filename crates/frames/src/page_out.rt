@@ -8,6 +8,7 @@ use card::block;
 use card::ring;
 use record::store::Store;
 ghost use mathlib.Core.Path.{_≡_};
+ghost use mathlib.Core.Logic.{_≢_};
 ghost use Prim.Native.Nat.{_≤_, _<_};
 ghost use lib.ListN.{length};
 ghost use Rattle.card.specs.Question.{firstNo};
@@ -60,17 +61,11 @@ fn current(s: Store, card: &mut [u8], memory: &[u8]) -> Wrote
     }
 }
 
-// Reports the block as an advance of kind P does.
-pub fn page_out(s: Store, card: &mut [u8], memory: &[u8]) -> Advanced
+// Where no flush is owed.
+fn out_due(s: Store, card: &mut [u8], memory: &[u8]) -> Advanced
+    requires { ⌜ (firstNo (commonAsks s (length (now memory)) (length (now card))) ≡ 0) × (s .phase ≢ 2) ⌝ }
     ensures { λ r. ⌜ FrameKept pageOut (lent s (now (memory .entry)) (now (card .entry))) (reported (r .answer)) (lent (r .store) (now (memory .entry)) (now (card .exit))) ⌝ }
 {
-    let no = question::common(s, memory.len(), card.len());
-    if no != 0 {
-        return Advanced {
-            answer: Advance::Refused(no),
-            store: s,
-        };
-    }
     if s.pending.down < s.pending.taken {
         let w = pending(s, card, memory);
         let t = w.store;
@@ -91,4 +86,24 @@ pub fn page_out(s: Store, card: &mut [u8], memory: &[u8]) -> Advanced
         answer: Advance::P(w.block),
         store: t,
     }
+}
+
+// Reports the block as an advance of kind P does.
+pub fn page_out(s: Store, card: &mut [u8], memory: &[u8]) -> Advanced
+    ensures { λ r. ⌜ FrameKept pageOut (lent s (now (memory .entry)) (now (card .entry))) (reported (r .answer)) (lent (r .store) (now (memory .entry)) (now (card .exit))) ⌝ }
+{
+    let no = question::common(s, memory.len(), card.len());
+    if no != 0 {
+        return Advanced {
+            answer: Advance::Refused(no),
+            store: s,
+        };
+    }
+    if s.phase == 2 {
+        return Advanced {
+            answer: Advance::Refused(28),
+            store: s,
+        };
+    }
+    out_due(s, card, memory)
 }

@@ -11,7 +11,7 @@ ghost use Rattle.record.specs.Meaning.{zeroStore};
 ghost use Rattle.frames.specs.Promise.{start, lent, numbered, FrameKept};
 ghost use Rattle.frames.specs.Parts.{Started, Startable};
 
-// The record of a card that has passed: nothing is migrated, nothing has changed.
+// The record of a card that has passed: nothing is migrated, nothing has changed, and a flush is owed.
 fn recovered(card: &[u8], memory: &[u8], c: Checkpoint) -> Store
     requires { ⌜ Startable (now memory) (now card) c ⌝ }
     ensures { λ t. ⌜ Started (now (memory .entry)) (now (card .entry)) t ⌝ }
@@ -40,6 +40,7 @@ fn recovered(card: &[u8], memory: &[u8], c: Checkpoint) -> Store
         pending: pending,
         tail: 0,
         current: current,
+        phase: 2,
     }
 }
 

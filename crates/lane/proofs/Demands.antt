@@ -78,8 +78,8 @@ run _ _ _ (cuts e es u v w is s ks) = byValue.then e es u v w s (run es v w ks)
 
 pub linked-demand-3 : LinkedDemand3
 unfolding numbered answered replyOf numberOf countOf bytesOf
-linked-demand-3 area numbers before card f es w ks m long n l k =
-    let d = demand-3 area numbers before card f es w (run es _ w ks) m long (k .answer) l (k .kept) in (
+linked-demand-3 area numbers before card f v e es w ks m long n l k =
+    let d = demand-3 area numbers before card f v e es w (run es _ w ks) m long (k .answer) l (k .kept) in (
       ap firstOf (k .in-numbers) ∙ ap numberOf (d .0),
       d .1,
       λ oid of refusal count number before after l₁ l₂ full key read.

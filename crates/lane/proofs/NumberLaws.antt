@@ -8,7 +8,7 @@ use mathlib.Core.Path.{_≡_, refl, ap, sym, _∙_}
 use Rattle.card.proofs.Test.{byTest}
 use Rattle.frames.specs.Promise.{Lent, FrameAnswer, numbered, reported}
 use Rattle.frames.specs.declared.answer.Advance.{Advance}
-use Rattle.frames.specs.declared.answer.Advance.the-variants.{P, D, T, M, H, Refused}
+use Rattle.frames.specs.declared.answer.Advance.the-variants.{P, D, T, M, H, F, Refused}
 use Rattle.lane.specs.Linked.{number, filling, present, report, presentOf, reportOf, kindNumber, numberOf, countOf, bytesOf, kindOf, blockOf, replyOf, Linked}
 use Rattle.lane.specs.declared.answer.Present.{Present}
 use Rattle.lane.specs.declared.answer.Report.{Report}
@@ -34,6 +34,7 @@ as-report (D b) = refl
 as-report (T b) = refl
 as-report (M b) = refl
 as-report (H b) = refl
+as-report (F b) = refl
 as-report (Refused n) = refl
 
 -- ---- a kept promise, linked

@@ -3,21 +3,22 @@
 -- Assumes nothing.
 use Prim.Native.Nat.{ℕ}
 use lib.ListN.{length}
-use mathlib.Core.Bool.{true}
+use mathlib.Core.Bool.{true, false, _||_}
 use mathlib.Core.List.{List, [], _∷_}
 use mathlib.Core.Option.{none, some}
 use mathlib.Core.Path.{_≡_}
 use Rattle.card.specs.Block.{whole}
 use Rattle.frames.specs.Promise.{Lent, lent, numbered}
 use Rattle.lane.specs.Linked.{Reply, number, filling, present, replyOf, Linked}
-use Rattle.pages.specs.Book.{Event, called, cutIn, cut, formatBook, bookAfter}
+use Rattle.pages.specs.Book.{Event, called, cutIn, cut, isFlush, formatBook, bookAfter}
 use Rattle.pages.specs.Demand2.{plainAnswers, plainCard, NoStart}
-use Rattle.pages.specs.Demand3.{World, lentTo, Step, OfRanges}
+use Rattle.pages.specs.Demand3.{World, lentTo, driveAfter, Step, OfRanges}
 use Rattle.pages.specs.Page.{Page}
 use Rattle.pages.specs.Plain.{plainOf}
-use Rattle.pages.specs.Promise.{Call, start, key, read, Answer, answered, FormatKept}
+use Rattle.pages.specs.Promise.{Call, start, key, read, Answer, answered, outcome, FormatKept}
 use Rattle.record.specs.Meaning.{zeroStore}
 use Rattle.recovery.specs.Step.{startState}
+use Rattle.recovery.specs.Write.{Drive, seen}
 
 -- ---- demand 2: every reply is the plain machine's answer in numbers
 
@@ -41,12 +42,13 @@ LinkedDemand2 = (m card : List ℕ) (l₀ : Lent) → Linked (start m) (lent zer
 abbrev pub IsCut : Event → Type 0
 IsCut (called c a) = ⊥
 IsCut (cutIn c reached) = Unit {0}
-IsCut cut = Unit {0}
+IsCut (cut reached) = Unit {0}
 
 -- a list of events; the book is fed the answer that a reply gives in numbers
 pub data LinkedRun : List Event → World → World → Type 0 where
   ended : (w : World) → LinkedRun [] w w
-  calls : (c : Call) (r : Reply) (es : List Event) (u w : World) (l l′ : Lent) → lentTo c u ≡ some l → (k : Linked c l r l′) → LinkedRun es (record { card = l′ .card; held = some l′ }) w
+  calls : (c : Call) (r : Reply) (es : List Event) (u w : World) (l l′ : Lent) → lentTo c u ≡ some l → (k : Linked c l r l′)
+      → LinkedRun es (record { drive = driveAfter (k .answer) (outcome c l .write) (u .drive); held = some l′; complete = u .complete || isFlush (k .answer) }) w
       → LinkedRun (called c (k .answer) ∷ es) u w
   cuts : (e : Event) (es : List Event) (u v w : World) → IsCut e → Step e u v → LinkedRun es v w → LinkedRun (e ∷ es) u w
 
@@ -58,8 +60,8 @@ LinkedShows l oid p = (refusal count number : ℕ) (before after : List ℕ) (l�
 
 abbrev pub LinkedDemand3 : Type 0
 LinkedDemand3 = (area : ℕ) (numbers before card : List ℕ) → FormatKept area numbers before (answered (numbered 0)) card
-    → (es : List Event) (w : World) → LinkedRun es (record { card = card; held = none }) w
+    → (v : Drive) → seen v ≡ card → (es : List Event) (w : World) → LinkedRun es (record { drive = v; held = none; complete = false }) w
     → (m : List ℕ) → whole 4 64 (length m) ≡ true
-    → (n : ℕ) (l : Lent) → Linked (start m) (lent zeroStore m (w .card)) (number n) l
-    → (n ≡ 0) × (l .card ≡ w .card)
+    → (n : ℕ) (l : Lent) → Linked (start m) (lent zeroStore m (seen (w .drive))) (number n) l
+    → (n ≡ 0) × (l .card ≡ seen (w .drive))
     × ((oid : ℕ) → OfRanges numbers oid → LinkedShows l oid (bookAfter es formatBook .kept oid))

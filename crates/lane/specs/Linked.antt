@@ -5,13 +5,13 @@ use mathlib.Core.List.{List, []}
 use mathlib.Core.Path.{_≡_}
 use Rattle.frames.specs.Promise.{Lent}
 use Rattle.frames.specs.declared.answer.Advance.{Advance}
-use Rattle.frames.specs.declared.answer.Advance.the-variants.{P, D, T, M, H, Refused}
+use Rattle.frames.specs.declared.answer.Advance.the-variants.{P, D, T, M, H, F, Refused}
 use Rattle.lane.specs.declared.answer.Present.{Present}
 use Rattle.lane.specs.declared.answer.Report.{Report}
 use Rattle.pages.specs.Promise.{Call, start, key, read, write, rescind, snapshot, pageOut, advance, Answer, refused, done, counted, filled, wrote, Kept}
 use Rattle.pages.specs.declared.answer.Count.{Count}
 use Rattle.pages.specs.declared.answer.Count.the-variants as Counts
-use Rattle.recovery.specs.Step.{Kind, page, directory, trailer, migration, header}
+use Rattle.recovery.specs.Step.{Kind, page, directory, trailer, migration, header, flush}
 
 -- what C gets of a call: a number; read's number and its buffer after the call; key's refusal and count; page-out's and advance's kind and block
 pub data Reply : Type 0 where
@@ -31,6 +31,7 @@ reportOf (D b) = record { kind = 2; number = b }
 reportOf (T b) = record { kind = 3; number = b }
 reportOf (M b) = record { kind = 4; number = b }
 reportOf (H b) = record { kind = 5; number = b }
+reportOf (F b) = record { kind = 6; number = b }
 reportOf (Refused n) = record { kind = 0; number = n }
 
 unfoldable pub kindNumber : Kind → ℕ
@@ -39,6 +40,7 @@ kindNumber directory = 2
 kindNumber trailer = 3
 kindNumber migration = 4
 kindNumber header = 5
+kindNumber flush = 6
 
 -- what an answer tells in numbers: its number, 0 where the call is done; a count; bytes; a kind, 0 for none, and its block, or the refusal's number
 unfoldable pub numberOf : Answer → ℕ

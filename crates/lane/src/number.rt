@@ -41,6 +41,7 @@ fn report(a: Advance) -> Report
         Advance::T(b) => Report { kind: 3, number: b },
         Advance::M(b) => Report { kind: 4, number: b },
         Advance::H(b) => Report { kind: 5, number: b },
+        Advance::F(b) => Report { kind: 6, number: b },
         Advance::Refused(n) => Report {
             kind: 0,
             number: number::wide(n),

@@ -67,6 +67,10 @@ fn print_advance(a: Advance) -> bool {
             print_line(b"H", n as u64);
             true
         }
+        Advance::F(n) => {
+            print_line(b"F", n as u64);
+            true
+        }
         Advance::Refused(n) => {
             print_line(b"advance", n as u64);
             false
@@ -118,6 +122,15 @@ fn show<'a>(s: Store, card: &'a [u8], memory: &'a [u8], oid: u32) -> Store {
     }
 }
 
+// The flush that is due after a start.
+fn flush(s: Store, card: &mut [u8], memory: &[u8]) -> Store {
+    let r = lend::advance(s, card, memory);
+    let t = r.store;
+    let a = r.answer;
+    print_advance(a);
+    t
+}
+
 fn passages(s: Store, card: &[u8], memory: &mut [u8]) -> Store {
     let t = write(s, card, memory, 100, 5);
     let u = write(t, card, memory, 101, 7);
@@ -132,8 +145,9 @@ fn commit(s: Store, card: &mut [u8], memory: &[u8]) -> Store {
 
 fn morning(s: Store, card: &mut [u8], memory: &mut [u8]) -> Store {
     let t = start(s, card, memory);
-    let u = passages(t, card, memory);
-    commit(u, card, memory)
+    let u = flush(t, card, memory);
+    let v = passages(u, card, memory);
+    commit(v, card, memory)
 }
 
 // After a power-up memory holds any bytes; start does not read the record that it is lent.

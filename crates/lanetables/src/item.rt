@@ -39,7 +39,7 @@ pub fn number_at(at: usize) -> u32
 {
     let mut card = [0u8; 5632];
     let mut memory = [0u8; 2048];
-    whole_run::run(&mut card, &mut memory, 3);
+    whole_run::run(&mut card, &mut memory, 4);
     number::get_u32(&card, at)
 }
 

@@ -50,13 +50,14 @@ fn refused_by_page() {
     line(b"rescind", refusal::last_count());
 }
 
-// 16 to 20: snapshot, page-out, advance.
+// 16 to 20 and 28: snapshot, page-out, advance.
 fn refused_by_state() {
     line(b"snapshot", refusal::one_pending());
     line(b"snapshot", refusal::nothing_changed());
     line(b"snapshot", refusal::last_commit());
     line(b"page-out", refusal::none_waits());
     line(b"advance", refusal::none_due());
+    line(b"page-out", refusal::flush_owed());
 }
 
 // Ranges: two that fill the card, two that touch, out of order, overlapping, with a block left over; then OIDs of the second, between them, above them.
@@ -83,8 +84,8 @@ fn main() {
     line(b"l 512 length 0", item::write_at(512, b""));
     pair(b"directory", item::number_at(1536), item::number_at(1540));
     pair(b"directory", item::number_at(1544), item::number_at(1548));
-    line(b"restart after T 4", item::restarted(4));
-    line(b"restart after H 0", item::restarted(5));
+    line(b"restart after T 4", item::restarted(5));
+    line(b"restart after H 0", item::restarted(7));
     two_ranges();
     refused_by_form();
     refused_by_page();

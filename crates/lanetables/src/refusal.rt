@@ -59,7 +59,7 @@ pub fn trailer_without_commit() -> u32 {
 pub fn trailer_of_other_commit() -> u32 {
     let mut card = [0u8; 5632];
     let mut memory = [0u8; 2048];
-    whole_run::run(&mut card, &mut memory, 5);
+    whole_run::run(&mut card, &mut memory, 7);
     card[2544] = 2;
     started(&card)
 }
@@ -68,7 +68,7 @@ pub fn trailer_of_other_commit() -> u32 {
 pub fn entry_of_header() -> u32 {
     let mut card = [0u8; 5632];
     let mut memory = [0u8; 2048];
-    whole_run::run(&mut card, &mut memory, 5);
+    whole_run::run(&mut card, &mut memory, 7);
     card[1536] = 0;
     started(&card)
 }
@@ -107,7 +107,7 @@ pub fn past_the_end() -> u32 {
 pub fn three_generations() -> u32 {
     let mut card = [0u8; 5632];
     let mut memory = [0u8; 2048];
-    let s = whole_run::run(&mut card, &mut memory, 7);
+    let s = whole_run::run(&mut card, &mut memory, 10);
     let t = whole_run::write_and_mark(s, &card, &mut memory);
     let d = pages::write::write(t, &card, &mut memory, 100, 0, 0, &[8]);
     d.answer
@@ -163,7 +163,7 @@ pub fn nothing_changed() -> u32 {
 pub fn last_commit() -> u32 {
     let mut card = [0u8; 5632];
     let mut memory = [0u8; 2048];
-    whole_run::run(&mut card, &mut memory, 5);
+    whole_run::run(&mut card, &mut memory, 7);
     number::put_u32(&mut card, 4, 4294967295);
     number::put_u32(&mut card, 2544, 4294967295);
     let d = pages::start::start(&card, &memory);
@@ -179,12 +179,24 @@ fn number_of(a: Advance) -> u32 {
         Advance::T(_) => 0,
         Advance::M(_) => 0,
         Advance::H(_) => 0,
+        Advance::F(_) => 0,
         Advance::Refused(n) => n,
     }
 }
 
 // 19
 pub fn none_waits() -> u32 {
+    let mut card = [0u8; 5632];
+    let memory = [0u8; 2048];
+    let s = whole_run::begin(&mut card, &memory, 8, 1);
+    let f = pages::advance::advance(s, &mut card, &memory);
+    let d = pages::page_out::page_out(f.store, &mut card, &memory);
+    let a = d.answer;
+    number_of(a)
+}
+
+// 28: the flush after a start is due
+pub fn flush_owed() -> u32 {
     let mut card = [0u8; 5632];
     let memory = [0u8; 2048];
     let s = whole_run::begin(&mut card, &memory, 8, 1);
@@ -198,7 +210,8 @@ pub fn none_due() -> u32 {
     let mut card = [0u8; 5632];
     let memory = [0u8; 2048];
     let s = whole_run::begin(&mut card, &memory, 8, 1);
-    let d = pages::advance::advance(s, &mut card, &memory);
+    let f = pages::advance::advance(s, &mut card, &memory);
+    let d = pages::advance::advance(f.store, &mut card, &memory);
     let a = d.answer;
     number_of(a)
 }

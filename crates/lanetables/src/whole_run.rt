@@ -27,7 +27,7 @@ fn advances(s: Store, card: &mut [u8], memory: &[u8], count: u32) -> Store {
     t
 }
 
-// The run up to so many advances: P 1, P 2, D 3, T 4, H 0, M 9, M 10.
+// The run up to so many advances: F 0, P 1, P 2, D 3, T 4, F 0, H 0, F 0, M 9, M 10.
 pub fn run(card: &mut [u8], memory: &mut [u8], count: u32) -> Store {
     let s = begin(card, memory, 8, 1);
     let t = write_and_mark(s, card, memory);

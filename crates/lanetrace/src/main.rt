@@ -17,6 +17,7 @@ fn print_advance(a: Advance) -> bool {
         Advance::T(n) => print_line(b'T', n),
         Advance::M(n) => print_line(b'M', n),
         Advance::H(n) => print_line(b'H', n),
+        Advance::F(n) => print_line(b'F', n),
         Advance::Refused(_) => false,
     }
 }

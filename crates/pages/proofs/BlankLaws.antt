@@ -14,7 +14,7 @@ use Rattle.recovery.specs.Contents.{FrameBytes}
 use Rattle.recovery.specs.Directory.{noteChange, turnOf}
 use Rattle.recovery.specs.Questions.{newPlaces, roomAsks, advanceAsks}
 use Rattle.recovery.specs.State.{Generation, State, places, entryCount, size, directoryOf, empty}
-use Rattle.recovery.specs.Step.{pendingTo, currentTo, queued, changeFrame, changeFrames, afterChange, afterSnapshot, Kind, page, directory, trailer, migration, header, outOf, afterKind, migrationDue, advanceDue, afterPageOut}
+use Rattle.recovery.specs.Step.{pendingTo, currentTo, queued, changeFrame, changeFrames, afterChange, afterSnapshot, Kind, page, directory, trailer, migration, header, flush, outOf, afterKind, migrationDue, advanceDue, afterPageOut}
 
 -- changed frames by their numbers
 unfoldable pub blankFrames : List FrameBytes → List FrameBytes
@@ -121,3 +121,4 @@ module _ (s : State) where
   blank-kind trailer = refl
   blank-kind migration = refl
   blank-kind header = rw blank-empty (unfold blankGeneration directoryOf in refl)
+  blank-kind flush = refl

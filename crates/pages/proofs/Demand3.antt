@@ -3,7 +3,7 @@
 use Prim.Native.Nat.{ℕ, zero, suc, _+_, _/_, _<_}
 use borrow.Author.Tests.{eq-eqb}
 use lib.ListN.{length}
-use mathlib.Core.Bool.{true}
+use mathlib.Core.Bool.{true, false, false≢true}
 use mathlib.Core.List.{List, []}
 use mathlib.Core.Option.{none, some}
 use mathlib.Core.Path.{_≡_, refl, ap, sym, _∙_}
@@ -21,18 +21,19 @@ use Rattle.frames.proofs.ReadyLaws.{has-frames}
 use Rattle.frames.proofs.Recovery.{frames-recover}
 use Rattle.frames.proofs.Run.{startLent, stays, firstWorld, Serves}
 use Rattle.frames.specs.Promise.{Lent, lent, meaningOf, common, FrameAnswer, FrameKept}
-use Rattle.pages.proofs.AnswerLaws.{ownAsks, asked-own, change-none, kept-done, lowered}
+use Rattle.pages.proofs.AnswerLaws.{ownAsks, asked-own, change-none, block-done, kept-done, lowered}
 use Rattle.pages.proofs.FormatLaws.{format-area, format-ranges, format-accepted, format-shows, format-done}
-use Rattle.pages.proofs.RunLaws.{Beside, serves, address-is, page-shown, called-beside, run-beside}
-use Rattle.pages.specs.Book.{Book, Event, formatBook, isDone, told, bookAfter}
+use Rattle.pages.proofs.RunLaws.{Beside, or-false, serves, address-is, page-shown, called-beside, run-beside}
+use Rattle.pages.specs.Book.{Book, Event, formatBook, isDone, isFlush, told, bookAfter}
 use Rattle.pages.specs.Demand3.{World, Run, OfRanges, Shows, Demand3}
 use Rattle.pages.specs.Page.{Page, emptyPage, pageOf, formatCard}
-use Rattle.pages.specs.Promise.{start, key, read, Answer, done, counted, filled, addressOf, atPlace, presentFrames, asks, frameCall, doneAnswer, Kept, rangesIn, formatAsks, FormatKept}
+use Rattle.pages.specs.Promise.{start, key, read, Answer, done, counted, filled, addressOf, atPlace, presentFrames, asks, frameCall, doneAnswer, outcome, Kept, rangesIn, formatAsks, FormatKept}
 use Rattle.record.specs.Meaning.{zeroStore}
 use Rattle.recovery.proofs.FrameTheorem.{accepted-stored, stored-long}
 use Rattle.recovery.specs.Questions.{startAsks, heldAsks}
 use Rattle.recovery.specs.State.{State, readFrame}
 use Rattle.recovery.specs.Step.{startState}
+use Rattle.recovery.specs.Write.{Drive, putAll, seen}
 use Rattle.frames.proofs.KeepLaws as keep
 use Rattle.frames.specs.Promise as frames
 
@@ -77,34 +78,37 @@ module _ (m₀ card₀ : List ℕ) (accepted : firstNo (startAsks m₀ card₀) 
   -- ---- a start
 
   module _ (w : World) (b : Book) (s : Beside m₀ card₀ accepted w b) (m : List ℕ) (memory : whole 4 64 (length m) ≡ true) where
-    recovers : (a : FrameAnswer) (l : Lent) → FrameKept (frames.start m) (startLent m (w .card)) a l → (a ≡ frames.done) × (l .card ≡ w .card) × Serves card₀ l
-    recovers a l k = let q = frames-recover m₀ card₀ accepted (s .frames) (s .run) m memory a l (rw (s .card-is) k) in (q .0, q .1 ∙ s .card-is, q .2)
+    recovers : (a : FrameAnswer) (l : Lent) → FrameKept (frames.start m) (startLent m (seen (w .drive))) a l → (a ≡ frames.done) × (l .card ≡ seen (w .drive)) × Serves card₀ l
+    recovers a l k = let q = frames-recover m₀ card₀ accepted (s .frames) (s .run) m memory a l (rw (s .seen-is) k) in (q .0, q .1 ∙ s .seen-is, q .2)
 
     -- a refused start would keep the frame layer's promise too, and the frame theorem says of every start that keeps it that it is done
-    start-passes : firstNo (asks (start m) (lent zeroStore m (w .card))) ≡ 0
+    start-passes : firstNo (asks (start m) (lent zeroStore m (seen (w .drive)))) ≡ 0
     unfolding asks frames.asks
-    start-passes = go (firstNo (startAsks m (w .card))) refl
+    start-passes = go (firstNo (startAsks m (seen (w .drive)))) refl
       where
-        go : (n : ℕ) → firstNo (startAsks m (w .card)) ≡ n → firstNo (startAsks m (w .card)) ≡ 0
+        go : (n : ℕ) → firstNo (startAsks m (seen (w .drive))) ≡ n → firstNo (startAsks m (seen (w .drive))) ≡ 0
         go zero e = e
         go (suc n) e =
-            let d : frames.refused (suc n) ≡ frames.done = recovers _ _ (keep.kept-refused (frames.start m) (startLent m (w .card)) (suc n) e (λ q. omega (arith, q))) .0 in
+            let d : frames.refused (suc n) ≡ frames.done = recovers _ _ (keep.kept-refused (frames.start m) (startLent m (seen (w .drive))) (suc n) e (λ q. omega (arith, q))) .0 in
             let z : _≡_ {A = ℕ} 0 1 = cc in
             absurd (omega arith)
 
-    module _ (a : Answer) (l : Lent) (k : Kept (start m) (lent zeroStore m (w .card)) a l) where
+    module _ (a : Answer) (l : Lent) (k : Kept (start m) (lent zeroStore m (seen (w .drive))) a l) where
       start-done : a ≡ done
       unfolding doneAnswer
-      start-done = kept-done (start m) (lent zeroStore m (w .card)) l a k start-passes .0
+      start-done = kept-done (start m) (lent zeroStore m (seen (w .drive))) l a k start-passes .0
 
-      started : (l .card ≡ w .card) × Serves card₀ l
+      started : (l .card ≡ seen (w .drive)) × Serves card₀ l
       unfolding frameCall frames.doneAnswer
-      started = let q = recovers _ l (lowered (start m) (lent zeroStore m (w .card)) l a k start-passes) in (q .1, q .2)
+      started = let q = recovers _ l (lowered (start m) (lent zeroStore m (seen (w .drive))) l a k start-passes) in (q .1, q .2)
 
       -- the world after it, and its book: what is kept is present
-      after-start : Beside m₀ card₀ accepted (record { card = l .card; held = some l }) (record { present = b .kept; marked = none; kept = b .kept })
-      unfolding told isDone
-      after-start = rw start-done at (called-beside m₀ card₀ accepted w b s (start m) a _ l refl k)
+      after-start : Beside m₀ card₀ accepted (record { drive = w .drive; held = some l; complete = w .complete }) (record { present = b .kept; marked = none; kept = b .kept; before = b .before })
+      unfolding told isDone isFlush frameCall frames.doneWrite
+      after-start = rw (start-done, none-written, or-false (w .complete)) at (called-beside m₀ card₀ accepted w b s (start m) a _ l refl k)
+        where
+          none-written : outcome (start m) (lent zeroStore m (seen (w .drive))) .write ≡ none
+          none-written = block-done (start m) (lent zeroStore m (seen (w .drive))) start-passes
 
       start-shows : (o : ℕ) (p : Address) → placeOn card₀ o ≡ Located p → Shows l o (b .kept o)
       unfolding told
@@ -137,29 +141,33 @@ module _ (area : ℕ) (numbers before card : List ℕ) (k : FormatKept area numb
     first-pages : (o : ℕ) (p : Address) → placeOn card o ≡ Located p → pageOf (readFrame (startState m card) card) p ≡ emptyPage
     first-pages o p e = rw card-is (format-shows area numbers before format-passes o p (sym (place-same o) ∙ e) m)
 
-    first-beside : Beside m card formatted (record { card = card; held = none }) formatBook
-    first-beside =
+    first-beside : (v : Drive) → seen v ≡ card → Beside m card formatted (record { drive = v; held = none; complete = false }) formatBook
+    unfolding putAll
+    first-beside v e =
         let long = stored-long _ _ _ card _ (accepted-stored m card formatted) in
         record {
           frames = firstWorld m card;
           run = stays _;
-          card-is = refl;
+          seen-is = sym e;
+          drive-is = λ q. absurd (false≢true q);
           held-is = refl;
-          same = record { long-present = long; long-marked = long; long-kept = long; present-is = first-pages; marked-is = first-pages; kept-is = first-pages };
+          same = record { long-present = long; long-marked = long; long-kept = long; present-is = first-pages; marked-is = first-pages; kept-is = first-pages; both-marked = tt };
+          before-is = tt;
         }
 
-    reached : (es : List Event) (w : World) → Run es (record { card = card; held = none }) w → Beside m card formatted w (bookAfter es formatBook)
-    reached es w run = run-beside m card formatted es _ w formatBook run first-beside
+    reached : (v : Drive) → seen v ≡ card → (es : List Event) (w : World) → Run es (record { drive = v; held = none; complete = false }) w → Beside m card formatted w (bookAfter es formatBook)
+    reached v e es w run = run-beside m card formatted es _ w formatBook run (first-beside v e)
 
 pub demand-3 : Demand3
-demand-3 area numbers before card k es w run m memory a l p =
-    let s = reached area numbers before card k m memory es w run in (
+demand-3 area numbers before card k v e es w run m memory a l p =
+    let s = reached area numbers before card k m memory v e es w run in (
       start-done m card _ w _ s m memory a l p,
       started m card _ w _ s m memory a l p .0,
       (λ o r. let q = place-of area numbers before card k o r in start-shows m card _ w _ s m memory a l p o (q .0) (q .1)),
     )
 
 -- start accepts every card that a finished format and later calls wrote, cut off or not
-pub start-accepts : (area : ℕ) (numbers before card : List ℕ) → FormatKept area numbers before done card → (es : List Event) (w : World) → Run es (record { card = card; held = none }) w
-    → (m : List ℕ) → whole 4 64 (length m) ≡ true → (a : Answer) (l : Lent) → Kept (start m) (lent zeroStore m (w .card)) a l → a ≡ done
-start-accepts area numbers before card k es w run m memory a l p = demand-3 area numbers before card k es w run m memory a l p .0
+pub start-accepts : (area : ℕ) (numbers before card : List ℕ) → FormatKept area numbers before done card → (v : Drive) → seen v ≡ card → (es : List Event) (w : World)
+    → Run es (record { drive = v; held = none; complete = false }) w
+    → (m : List ℕ) → whole 4 64 (length m) ≡ true → (a : Answer) (l : Lent) → Kept (start m) (lent zeroStore m (seen (w .drive))) a l → a ≡ done
+start-accepts area numbers before card k v e es w run m memory a l p = demand-3 area numbers before card k v e es w run m memory a l p .0

@@ -27,7 +27,7 @@ use Rattle.recovery.specs.Contents.{Contents, FrameBytes}
 use Rattle.recovery.specs.Directory.{Note}
 use Rattle.recovery.specs.Questions.{roomAsks, pageOutAsks, advanceAsks}
 use Rattle.recovery.specs.State.{Generation, State, entryCount, directoryOf, empty}
-use Rattle.recovery.specs.Step.{pendingTo, currentTo, changeFrame, changeFrames, Kind, page, directory, trailer, migration, header, outWrite, outOf, tailBytes, trailerBlockNo, nextMigration, kindWrite, afterKind, advanceDue, pageOutWrite, afterPageOut}
+use Rattle.recovery.specs.Step.{pendingTo, currentTo, changeFrame, changeFrames, Kind, page, directory, trailer, migration, header, flush, outWrite, outOf, tailBytes, trailerBlockNo, nextMigration, kindWrite, afterKind, advanceDue, pageOutWrite, afterPageOut}
 use Rattle.recovery.specs.Sums.{notedIn, remainingWrites, firstOf, roomSums, advanceSums}
 
 -- ---- the frames that a call changes, by their numbers
@@ -94,6 +94,7 @@ kind-current directory s = refl
 kind-current trailer s = refl
 kind-current migration s = refl
 kind-current header s = refl
+kind-current flush s = refl
 
 pub kind-marked : (k : Kind) (s : State) (b : FrameBook) → isNone (b .marked) ≡ nonePending s → isNone (bookWrote k b .marked) ≡ nonePending (afterKind k s)
 unfolding afterKind outOf empty
@@ -102,6 +103,7 @@ kind-marked directory s b e = e
 kind-marked trailer s b e = e
 kind-marked migration s b e = e
 kind-marked header s b e = refl
+kind-marked flush s b e = e
 
 -- ---- a state, and the machine's ledger beside it
 
@@ -149,4 +151,5 @@ module _ (s : State) (t : Plain) (ledger-is : t .ledger ≡ blank s) where
     kind-is directory e = rw ledger-is
     kind-is trailer e = rw ledger-is
     kind-is migration e = rw ledger-is (λ i. record { block = nextMigration s .frame; bytes = home-bytes blocks area rs s c (t .frames) f (due-migration blocks area rs s c (t .frames) f e) i })
+    kind-is flush e = refl
     kind-is header e = let one : 1 + s .commit ≡ suc (s .commit) = omega arith in rw (ledger-is, one)

@@ -36,7 +36,7 @@ use Rattle.recovery.specs.Book.{FrameBook, applyChanges, bookChange, bookWrote,
 use Rattle.recovery.specs.Contents.{Contents, FrameBytes}
 use Rattle.recovery.specs.Questions.{heldAsks, roomAsks, snapshotAsks, given, advanceAsks}
 use Rattle.recovery.specs.State.{entryCount, empty}
-use Rattle.recovery.specs.Step.{changeFrames, afterChange, afterSnapshot, Kind, page, directory, trailer, migration, header, kindWrite, advanceDue}
+use Rattle.recovery.specs.Step.{changeFrames, afterChange, afterSnapshot, Kind, page, directory, trailer, migration, header, flush, kindWrite, kindPut, advanceDue}
 use Rattle.recovery.specs.Sums.{roomSums}
 use Rattle.recovery.specs.Write.{BlockWrite}
 use Rattle.frames.specs.Promise as frames
@@ -53,6 +53,7 @@ wrote-present directory b = refl
 wrote-present trailer b = refl
 wrote-present migration b = refl
 wrote-present header b = refl
+wrote-present flush b = refl
 
 module _ (rs : List Range) (blocks area : ℕ) (full : blocks ≡ 1 + area + allBlocks rs) where
   -- the frames show each OID's page, with its flag, as the rows have it
@@ -228,7 +229,7 @@ module _ (rs : List Range) (blocks area : ℕ) (full : blocks ≡ 1 + area + all
         record {
           asked = tt;
           answer-is = ap (λ (w : BlockWrite). wrote k (w .block)) block-is;
-          write-is = rw e (ap (λ (w : BlockWrite). some w) block-is);
+          write-is = rw e (ap (kindPut k) block-is);
           frames-are = rw e;
           ledger-is = rw (e, b .ledger-is) (blank-kind (meaningOf l) k);
           changed-is = rw (e, kind-current k (meaningOf l)) (b .changed-is);

@@ -4,10 +4,10 @@ use Prim.Native.Nat.{ℕ, _+_, _/_, _≤_, _<_}
 use borrow.Author.Tests.{eqb-true, eq-eqb, ne-eqb}
 use lib.Dec.{eqb}
 use lib.ListN.{length}
-use mathlib.Core.Bool.{cond}
+use mathlib.Core.Bool.{cond, Bool, true, false}
 use mathlib.Core.List.{List, [], _∷_}
 use mathlib.Core.Logic.{_≢_}
-use mathlib.Core.Option.{none, some, Option·getD}
+use mathlib.Core.Option.{Option, none, some, Option·getD}
 use mathlib.Core.Path.{_≡_, refl, ap, sym, _∙_}
 use native.Mathlib.Decide.{ℕ-discrete}
 use native.Mathlib.Omega.{arith}
@@ -25,11 +25,11 @@ use Rattle.card.specs.Range.{Range, locate, allBlocks}
 use Rattle.card.specs.declared.range.Address.{Address}
 use Rattle.card.specs.declared.range.Lookup.the-variants.{Located}
 use Rattle.pages.proofs.RowLaws.{rescind-row, rescind-other, write-row, write-other}
-use Rattle.pages.specs.Book.{Table, Book, update, presentTo, written, rescinded, headerReached}
+use Rattle.pages.specs.Book.{Table, Book, update, presentTo, written, rescinded, headerReached, flushedBook, cutBook}
 use Rattle.pages.specs.Page.{Page, flagged, pageBytes, pageOf, writeFrames, rescindPot, rescindFrames}
 use Rattle.pages.specs.Plain.{Row, rowOf}
 use Rattle.recovery.proofs.FrameTheorem.{accepted-stored, stored-geometry}
-use Rattle.recovery.specs.Book.{FrameBook, markedOr, applyChanges, bookChange, bookSnapshot, bookStart, bookHeader, WholeFrame}
+use Rattle.recovery.specs.Book.{FrameBook, markedOr, applyChanges, bookChange, bookSnapshot, bookStart, bookHeader, bookCut, WholeFrame}
 use Rattle.recovery.specs.Contents.{Contents, FrameBytes, overlay}
 use Rattle.recovery.specs.Questions.{startAsks}
 
@@ -80,6 +80,20 @@ module _ (rs : List Range) (blocks area : ℕ) (full : blocks ≡ 1 + area + all
   abbrev pub Long : Contents → Type 0
   Long v = (f : ℕ) → area < f → f < blocks → length (v f) ≡ 512
 
+  -- marked is empty in both books or in neither
+  abbrev pub Both : Option Contents → Option Table → Type 0
+  Both none none = Unit {0}
+  Both none (some t) = ⊥
+  Both (some v) none = ⊥
+  Both (some v) (some t) = Unit {0}
+
+  -- what was kept before a header write that is not flushed
+  abbrev pub SameBefore : Option Contents → Option Table → Type 0
+  SameBefore none none = Unit {0}
+  SameBefore none (some t) = ⊥
+  SameBefore (some v) none = ⊥
+  SameBefore (some v) (some t) = Long v × SamePages v t
+
   pub record Represents (b : FrameBook) (pb : Book) : Type 0 where
     pub long-present : Long (b .present)
     pub long-marked : Long (markedOr b)
@@ -87,19 +101,54 @@ module _ (rs : List Range) (blocks area : ℕ) (full : blocks ≡ 1 + area + all
     pub present-is : SamePages (b .present) (pb .present)
     pub marked-is : SamePages (markedOr b) (Option·getD (pb .marked) (pb .kept))
     pub kept-is : SamePages (b .kept) (pb .kept)
+    pub both-marked : Both (b .marked) (pb .marked)
 
-  pub represents-start : (b : FrameBook) (pb : Book) → Represents b pb → Represents (bookStart b) (record { present = pb .kept; marked = none; kept = pb .kept })
-  represents-start b pb h = record { long-present = h .long-kept; long-marked = h .long-kept; long-kept = h .long-kept; present-is = h .kept-is; marked-is = h .kept-is; kept-is = h .kept-is }
+  pub represents-start : (b : FrameBook) (pb : Book) → Represents b pb → Represents (bookStart b) (record { present = pb .kept; marked = none; kept = pb .kept; before = pb .before })
+  represents-start b pb h = record { long-present = h .long-kept; long-marked = h .long-kept; long-kept = h .long-kept; present-is = h .kept-is; marked-is = h .kept-is; kept-is = h .kept-is; both-marked = tt }
 
-  pub represents-snapshot : (b : FrameBook) (pb : Book) → Represents b pb → Represents (bookSnapshot b) (record { present = pb .present; marked = some (pb .present); kept = pb .kept })
-  represents-snapshot b pb h = record { long-present = h .long-present; long-marked = h .long-present; long-kept = h .long-kept; present-is = h .present-is; marked-is = h .present-is; kept-is = h .kept-is }
+  pub represents-snapshot : (b : FrameBook) (pb : Book) → Represents b pb → Represents (bookSnapshot b) (record { present = pb .present; marked = some (pb .present); kept = pb .kept; before = pb .before })
+  represents-snapshot b pb h = record { long-present = h .long-present; long-marked = h .long-present; long-kept = h .long-kept; present-is = h .present-is; marked-is = h .present-is; kept-is = h .kept-is; both-marked = tt }
 
   pub represents-header : (b : FrameBook) (pb : Book) → Represents b pb → Represents (bookHeader b) (headerReached pb)
-  represents-header b pb h = record { long-present = h .long-present; long-marked = h .long-marked; long-kept = h .long-marked; present-is = h .present-is; marked-is = h .marked-is; kept-is = h .marked-is }
+  represents-header b pb h = record { long-present = h .long-present; long-marked = h .long-marked; long-kept = h .long-marked; present-is = h .present-is; marked-is = h .marked-is; kept-is = h .marked-is; both-marked = tt }
+
+  pub represents-flushed : (b : FrameBook) (pb : Book) → Represents b pb → Represents b (flushedBook pb)
+  represents-flushed b pb h = record {
+    long-present = h .long-present;
+    long-marked = h .long-marked;
+    long-kept = h .long-kept;
+    present-is = h .present-is;
+    marked-is = h .marked-is;
+    kept-is = h .kept-is;
+    both-marked = h .both-marked;
+  }
+
+  -- with something else kept
+  represents-kept : (b : FrameBook) (pb : Book) (v : Contents) (t : Table) → Represents b pb → Long v → SamePages v t
+      → Represents (record { present = b .present; marked = b .marked; kept = v }) (record { present = pb .present; marked = pb .marked; kept = t; before = none })
+  represents-kept b pb v t h l s =
+      let m = go (b .marked) (pb .marked) (h .both-marked) (h .long-marked) (h .marked-is) in
+      record { long-present = h .long-present; long-marked = m .0; long-kept = l; present-is = h .present-is; marked-is = m .1; kept-is = s; both-marked = h .both-marked }
+    where
+      go : (x : Option Contents) (y : Option Table) → Both x y → Long (Option·getD x (b .kept)) → SamePages (Option·getD x (b .kept)) (Option·getD y (pb .kept))
+          → Long (Option·getD x v) × SamePages (Option·getD x v) (Option·getD y t)
+      go none none e a c = (l, s)
+      go none (some y) e a c = absurd e
+      go (some x) none e a c = absurd e
+      go (some x) (some y) e a c = (a, c)
+
+  -- a cut
+  pub represents-cut : (b : FrameBook) (pb : Book) (o : Option Contents) (ot : Option Table) → SameBefore o ot → (reached : Bool) → Represents b pb → Represents (bookCut o reached b) (cutBook ot reached pb)
+  represents-cut b pb none none e true h = represents-flushed (bookHeader b) (headerReached pb) (represents-header b pb h)
+  represents-cut b pb none none e false h = h
+  represents-cut b pb none (some t) e reached h = absurd e
+  represents-cut b pb (some v) none e reached h = absurd e
+  represents-cut b pb (some v) (some t) e true h = represents-kept b pb (b .kept) (pb .kept) h (h .long-kept) (h .kept-is)
+  represents-cut b pb (some v) (some t) e false h = represents-kept b pb v t h (e .0) (e .1)
 
   -- what is present changes, the rest stays
   represents-present : (b : FrameBook) (pb : Book) (v : Contents) (t : Table) → Represents b pb → Long v → SamePages v t → Represents (record { present = v; marked = b .marked; kept = b .kept }) (presentTo t pb)
-  represents-present b pb v t h l s = record { long-present = l; long-marked = h .long-marked; long-kept = h .long-kept; present-is = s; marked-is = h .marked-is; kept-is = h .kept-is }
+  represents-present b pb v t h l s = record { long-present = l; long-marked = h .long-marked; long-kept = h .long-kept; present-is = s; marked-is = h .marked-is; kept-is = h .kept-is; both-marked = h .both-marked }
 
   -- a write of length 0 is no news
   pub nothing-represents : (b : FrameBook) (pb : Book) → Represents b pb → (o at : ℕ) (new : List ℕ) → length new ≡ 0

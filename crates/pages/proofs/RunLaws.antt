@@ -4,22 +4,23 @@ use Prim.Native.Nat.{ℕ, _+_, _/_, _≤_, _<_}
 use borrow.Author.Tests.{eqb-true}
 use lib.Dec.{eqb}
 use lib.ListN.{length}
-use mathlib.Core.Bool.{Bool, true, false, cond}
+use mathlib.Core.Bool.{Bool, true, false, cond, _||_}
 use mathlib.Core.List.{List}
-use mathlib.Core.Logic.{_≢_, inl, inr, ⊎-elim}
+use mathlib.Core.Logic.{_≢_, _⊎_, inl, inr, ⊎-elim}
 use mathlib.Core.Option.{Option, none, some}
 use mathlib.Core.Path.{_≡_, refl, ap, sym, _∙_, subst}
 use native.Mathlib.Decide.{ℕ-discrete}
 use native.Mathlib.Omega.{arith}
 use Rattle.card.proofs.AddressLaws.{Within}
 use Rattle.card.proofs.Test.{byTest}
-use Rattle.card.specs.Block.{blockAt}
+use Rattle.card.specs.Block.{blockAt, putBlock}
 use Rattle.card.specs.Bytes.{All}
 use Rattle.card.specs.Header.{headerOn}
 use Rattle.card.specs.Question.{firstNo, headerRanges}
 use Rattle.card.specs.Range.{Range, allBlocks, locate}
 use Rattle.card.specs.declared.range.Address.{Address}
-use Rattle.card.specs.declared.range.Lookup.the-variants.{Located}
+use Rattle.card.specs.declared.range.Lookup.{Lookup}
+use Rattle.card.specs.declared.range.Lookup.the-variants.{Located, Outside}
 use Rattle.frames.proofs.KeepLaws as keep
 use Rattle.frames.proofs.ReadyLaws.{has-frames, no-zeros}
 use Rattle.frames.proofs.Recovery.{frames-present, frames-hold}
@@ -29,16 +30,17 @@ use Rattle.frames.specs.Promise as frames
 use Rattle.frames.specs.Promise.{Lent, FrameAnswer}
 use Rattle.pages.proofs.AnswerLaws.{asked-both, write-passed, rescind-passed, frames-asked, block-done, block-none, kept-done, kept-refused, lowered}
 use Rattle.pages.proofs.BookLaws.{told-refused}
-use Rattle.pages.proofs.Represents.{write-whole, rescind-whole, write-same, rescind-same, accepted-full, Represents, represents-start, represents-snapshot, represents-header, nothing-represents, in-p, pot-long, page-long, write-represents, rescind-represents}
-use Rattle.pages.specs.Book.{Book, Event, called, cutIn, update, presentTo, written, rescinded, headerReached, isDone, isHeader, told, bookAfter}
-use Rattle.pages.specs.Demand3.{World, lentTo, ReachedIs, Step, calls, cutWithin, cutBetween, Run, ended, then}
+use Rattle.pages.proofs.Represents.{write-whole, rescind-whole, write-same, rescind-same, accepted-full, SameBefore, Represents, represents-flushed, represents-cut, represents-start, represents-snapshot, represents-header, nothing-represents, in-p, pot-long, page-long, write-represents, rescind-represents}
+use Rattle.pages.specs.Book.{Table, Book, Event, called, cutIn, update, presentTo, written as pageWritten, rescinded, headerReached, flushedBook, cutBook, isDone, isHeader, isFlush, told, bookAfter}
+use Rattle.pages.specs.Demand3.{World, lentTo, driveAfter, Step, calls, cutWithin, cutBetween, Run, ended, then}
 use Rattle.pages.specs.Page.{Page, pageBytes, pageOf, writeFrames, rescindFrames}
-use Rattle.pages.specs.Promise.{Call, start, key, read, write, rescind, snapshot, pageOut, advance, Answer, answered, addressOf, atPlace, presentFrames, presentCount, writeChanges, rescindChanges, asks, frameCall, doneAnswer, outcome, Kept}
-use Rattle.recovery.specs.Book.{FrameBook, applyChanges, bookChange, bookHeader, WholeFrame}
-use Rattle.recovery.specs.Contents.{FrameBytes}
+use Rattle.pages.specs.Promise.{Call, start, key, read, write, rescind, snapshot, pageOut, advance, Answer, refused, counted, filled, answered, addressOf, atPlace, presentFrames, presentCount, writeChanges, rescindChanges, asks, frameCall, doneAnswer, refusal, outcome, Kept}
+use Rattle.recovery.proofs.DriveLaws.{seen-written}
+use Rattle.recovery.specs.Book.{FrameBook, applyChanges, bookChange, bookCut, WholeFrame}
+use Rattle.recovery.specs.Contents.{Contents, FrameBytes}
 use Rattle.recovery.specs.Questions.{startAsks}
-use Rattle.recovery.specs.Step.{page, directory, trailer, migration, header}
-use Rattle.recovery.specs.Write.{BlockWrite, Left}
+use Rattle.recovery.specs.Step.{page, directory, trailer, migration, header, flush}
+use Rattle.recovery.specs.Write.{BlockWrite, Drive, putAll, seen, settled, written, Cut, ReachedIs}
 
 -- a call that is done writes the block that its frame call writes
 write-is : (c : Call) (l : Lent) → firstNo (asks c l) ≡ 0 → outcome c l .write ≡ frames.outcome (frameCall c l) l .write
@@ -46,10 +48,68 @@ write-is c l ok =
     let n : ℕ = firstNo (frames.asks (frameCall c l) l) in
     block-done c l ok ∙ sym (keep.outcome-done n (frames.doneAnswer (frameCall c l) l) (frames.refused n) (frames.doneWrite (frameCall c l) l) (frames.after (frameCall c l) l) (frames-asked l c ok) .1)
 
--- the frames' book at a cut
-cut-book : (o : Option BlockWrite) (card : List ℕ) (reached : Bool) (b : FrameBook) → ReachedIs o card reached → run.CutBook o card b (cond reached (bookHeader b) b)
-cut-book none card reached b e = rw e
-cut-book (some w) card reached b e = ⊎-elim (λ r. inl (r .0, rw (r .1))) (λ r. inr (r .0, rw (r .1))) e
+-- ---- what an answer tells of the drive: the frame layer's and this layer's tell the same
+
+same-flush : (a : FrameAnswer) (o : Option BlockWrite) (v : Drive) → run.driveTold a o v ≡ driveAfter (answered a) o v
+unfolding answered isFlush
+same-flush (frames.refused n) o v = refl
+same-flush frames.done o v = refl
+same-flush (frames.wrote page n) o v = refl
+same-flush (frames.wrote directory n) o v = refl
+same-flush (frames.wrote trailer n) o v = refl
+same-flush (frames.wrote migration n) o v = refl
+same-flush (frames.wrote header n) o v = refl
+same-flush (frames.wrote flush n) o v = refl
+
+at-place : (other : Answer) (a : Lookup) (f : Address → Answer) → isFlush other ≡ false → ((p : Address) → isFlush (f p) ≡ false) → isFlush (atPlace other a f) ≡ false
+unfolding atPlace
+at-place other Outside f h k = h
+at-place other (Located p) f h k = k p
+
+-- a call that is done
+drive-done : (c : Call) (l : Lent) (o : Option BlockWrite) (v : Drive) → run.driveTold (frames.doneAnswer (frameCall c l) l) o v ≡ driveAfter (doneAnswer c l) o v
+unfolding frameCall doneAnswer
+drive-done (start m) l o v = unfold frames.doneAnswer isFlush in refl
+drive-done (key u) l o v = unfold frames.doneAnswer in (rw (at-place (refused 9) (addressOf l u) (λ p. counted (presentCount l p)) (unfold isFlush in refl) (λ p. unfold isFlush in refl)) refl)
+drive-done (read u n x) l o v = unfold frames.doneAnswer in (rw (at-place (filled 9 x) (addressOf l u) (λ p. filled 0 (pageBytes (presentFrames l) p)) (unfold isFlush in refl) (λ p. unfold isFlush in refl)) refl)
+drive-done (write u n at new) l o v = unfold frames.doneAnswer isFlush in refl
+drive-done (rescind u n) l o v = unfold frames.doneAnswer isFlush in refl
+drive-done snapshot l o v = unfold frames.doneAnswer isFlush in refl
+drive-done pageOut l o v = same-flush (frames.doneAnswer frames.pageOut l) o v
+drive-done advance l o v = same-flush (frames.doneAnswer frames.advance l) o v
+
+-- one that is refused
+refusal-flush : (c : Call) (n : ℕ) → isFlush (refusal c n) ≡ false
+unfolding refusal isFlush
+refusal-flush (start m) n = refl
+refusal-flush (key o) n = refl
+refusal-flush (read o k x) n = refl
+refusal-flush (write o k at new) n = refl
+refusal-flush (rescind o k) n = refl
+refusal-flush snapshot n = refl
+refusal-flush pageOut n = refl
+refusal-flush advance n = refl
+
+-- the card that is seen after it depends on the card that was seen alone
+seen-after : (a : Answer) (o : Option BlockWrite) (u v : Drive) → seen u ≡ seen v → seen (driveAfter a o u) ≡ seen (driveAfter a o v)
+seen-after a o u v e = go (isFlush a) o
+  where
+    go : (t : Bool) (x : Option BlockWrite) → seen (cond t (settled (seen u)) (written x u)) ≡ seen (cond t (settled (seen v)) (written x v))
+    go true x = unfold putAll in e
+    go false none = e
+    go false (some w) = seen-written u w ∙ ap (λ (c : List ℕ). putBlock c (w .block) (w .bytes)) e ∙ sym (seen-written v w)
+
+-- and the drive, where it is flushed
+flushed-after : (a : Answer) (o : Option BlockWrite) (u v : Drive) → seen u ≡ seen v → isFlush a ≡ true → driveAfter a o u ≡ driveAfter a o v
+flushed-after a o u v e t = rw t (ap settled e)
+
+pub or-false : (x : Bool) → (x || false) ≡ x
+or-false true = refl
+or-false false = refl
+
+either : (x y : Bool) → (x || y) ≡ true → (x ≡ true) ⊎ (y ≡ true)
+either true y e = inl refl
+either false y e = inr e
 
 module _ (m₀ card₀ : List ℕ) (accepted : firstNo (startAsks m₀ card₀) ≡ 0) where
   -- ---- the first card's geometry
@@ -74,9 +134,11 @@ module _ (m₀ card₀ : List ℕ) (accepted : firstNo (startAsks m₀ card₀) 
   pub record Beside (w : World) (b : Book) : Type 0 where
     pub frames : FrameWorld
     pub run : FrameRun (firstWorld m₀ card₀) frames
-    pub card-is : frames .card ≡ w .card
+    pub seen-is : seen (frames .drive) ≡ seen (w .drive)
+    pub drive-is : w .complete ≡ true → frames .drive ≡ w .drive
     pub held-is : frames .held ≡ w .held
     pub same : Same (frames .book) b
+    pub before-is : SameBefore rs blocks area full (frames .before) (b .before)
 
   module _ (w : World) (b : Book) (s : Beside w b) where
     abbrev book : FrameBook
@@ -119,9 +181,9 @@ module _ (m₀ card₀ : List ℕ) (accepted : firstNo (startAsks m₀ card₀) 
         long-pot : length (book .present (p .pot)) ≡ 512
         long-pot = pot-long rs blocks area full o p at-p book b (s .same)
 
-        write-news : (at : ℕ) (new : List ℕ) → at + length new ≤ 512 → News (writeChanges l at new p) (presentTo (update o (written at new (b .present o)) (b .present)) b)
+        write-news : (at : ℕ) (new : List ℕ) → at + length new ≤ 512 → News (writeChanges l at new p) (presentTo (update o (pageWritten at new (b .present o)) (b .present)) b)
         unfolding writeChanges applyChanges
-        write-news at new short = byTest (λ (ws : List FrameBytes). News ws (presentTo (update o (written at new (b .present o)) (b .present)) b)) (eqb (length new) 0)
+        write-news at new short = byTest (λ (ws : List FrameBytes). News ws (presentTo (update o (pageWritten at new (b .present o)) (b .present)) b)) (eqb (length new) 0)
             (λ e. (tt, nothing-represents rs blocks area full book b (s .same) o at new (eqb-true _ _ e)))
             (λ e. rw (write-same (presentFrames l) (book .present) p at new pot-is page-is)
             (asked (writeFrames (book .present) p at new) home, write-represents rs blocks area full o p at-p book b (s .same) at new home))
@@ -139,41 +201,47 @@ module _ (m₀ card₀ : List ℕ) (accepted : firstNo (startAsks m₀ card₀) 
 
     -- ---- a call that is done: its frame call may be asked for, and both books are told the same
 
-    header-news : (a : FrameAnswer) → Same (run.onWrote a book) (cond (isHeader (answered a)) (headerReached b) b)
-    unfolding isHeader answered
-    header-news (frames.refused n) = s .same
-    header-news frames.done = s .same
-    header-news (frames.wrote page n) = s .same
-    header-news (frames.wrote directory n) = s .same
-    header-news (frames.wrote trailer n) = s .same
-    header-news (frames.wrote migration n) = s .same
-    header-news (frames.wrote header n) = represents-header rs blocks area full book b (s .same)
+    -- both books, and what each has of before
+    abbrev Told : FrameBook → Option Contents → Book → Type 0
+    Told fb o pb = Same fb pb × SameBefore rs blocks area full o (pb .before)
+
+    header-news : (a : FrameAnswer) → Told (run.onWrote a book) (run.beforeTold a book (s .frames .before)) (cond (isHeader (answered a)) (headerReached b) (cond (isFlush (answered a)) (flushedBook b) b))
+    unfolding isHeader isFlush answered
+    header-news (frames.refused n) = (s .same, s .before-is)
+    header-news frames.done = (s .same, s .before-is)
+    header-news (frames.wrote page n) = (s .same, s .before-is)
+    header-news (frames.wrote directory n) = (s .same, s .before-is)
+    header-news (frames.wrote trailer n) = (s .same, s .before-is)
+    header-news (frames.wrote migration n) = (s .same, s .before-is)
+    header-news (frames.wrote header n) = (represents-header rs blocks area full book b (s .same), (s .same .long-kept, s .same .kept-is))
+    header-news (frames.wrote flush n) = (represents-flushed rs blocks area full book b (s .same), tt)
 
     done-told : (l : Lent) (c : Call) → lentTo c w ≡ some l → firstNo (asks c l) ≡ 0
-        → run.Asked (frameCall c l) l × Same (run.told (frameCall c l) (frames.doneAnswer (frameCall c l) l) book) (told (called c (doneAnswer c l)) b)
+        → run.Asked (frameCall c l) l
+        × Told (run.told (frameCall c l) (frames.doneAnswer (frameCall c l) l) book) (run.beforeTold (frames.doneAnswer (frameCall c l) l) book (s .frames .before)) (told (called c (doneAnswer c l)) b)
     unfolding frameCall doneAnswer frames.doneAnswer told run.told isDone applyChanges atPlace
-    done-told l (start m) e ok = (tt, represents-start rs blocks area full book b (s .same))
-    done-told l (key o) e ok = (tt, s .same)
-    done-told l (read o n x) e ok = (tt, s .same)
+    done-told l (start m) e ok = (tt, (represents-start rs blocks area full book b (s .same), s .before-is))
+    done-told l (key o) e ok = (tt, (s .same, s .before-is))
+    done-told l (read o n x) e ok = (tt, (s .same, s .before-is))
     done-told l (write o n at new) e ok =
         let q = asked-both (write o n at new) l tt ok in
         let low = has-frames l (q .0) in
         let f = write-passed l o n at new (q .1) in
-        rw (f .place-is) (write-news l e low o (f .place) (sym (address-is l e low o) ∙ f .place-is) at new (f .short))
+        rw (f .place-is) (let n = write-news l e low o (f .place) (sym (address-is l e low o) ∙ f .place-is) at new (f .short) in (n .0, (n .1, s .before-is)))
     done-told l (rescind o n) e ok =
         let q = asked-both (rescind o n) l tt ok in
         let low = has-frames l (q .0) in
         let f = rescind-passed l o n (q .1) in
-        rw (f .place-is) (rescind-news l e low o (f .place) (sym (address-is l e low o) ∙ f .place-is) (rw (f .count-is) (f .few)))
-    done-told l snapshot e ok = (tt, represents-snapshot rs blocks area full book b (s .same))
-    done-told l pageOut e ok = (tt, s .same)
+        rw (f .place-is) (let n = rescind-news l e low o (f .place) (sym (address-is l e low o) ∙ f .place-is) (rw (f .count-is) (f .few)) in (n .0, (n .1, s .before-is)))
+    done-told l snapshot e ok = (tt, (represents-snapshot rs blocks area full book b (s .same), s .before-is))
+    done-told l pageOut e ok = (tt, (s .same, s .before-is))
     done-told l advance e ok = (tt, header-news (frames.doneAnswer frames.advance l))
 
     -- ---- steps
 
     lent-is : (c : Call) (l : Lent) → lentTo c w ≡ some l → run.lentTo (frameCall c l) (s .frames) ≡ some l
     unfolding frameCall
-    lent-is (start m) l e = rw (s .card-is) e
+    lent-is (start m) l e = rw (s .seen-is) e
     lent-is (key o) l e = s .held-is ∙ e
     lent-is (read o n x) l e = s .held-is ∙ e
     lent-is (write o n at new) l e = s .held-is ∙ e
@@ -182,24 +250,26 @@ module _ (m₀ card₀ : List ℕ) (accepted : firstNo (startAsks m₀ card₀) 
     lent-is pageOut l e = s .held-is ∙ e
     lent-is advance l e = s .held-is ∙ e
 
-    abbrev Hands : Lent → Book → Type 0
-    Hands l b′ = Beside (record { card = l .card; held = some l }) b′
-
     -- refused: the frames stand as they are, but for a start, which hands out the record of zeros
-    stands : (l : Lent) → w .held ≡ some l → Hands l b
-    stands l e =
-        let held = s .held-is ∙ e in
-        record { frames = s .frames; run = s .run; card-is = sym (frames-hold m₀ card₀ accepted (s .frames) (s .run) l held .1); held-is = held; same = s .same }
+    abbrev Refused : Lent → Type 0
+    Refused l = Beside (record { drive = w .drive; held = some l; complete = w .complete }) b
 
-    called-refused : (c : Call) (l : Lent) → lentTo c w ≡ some l → firstNo (asks c l) ≢ 0 → Hands (frames.handedBack (frameCall c l) l) b
-    unfolding frameCall asks frames.asks run.told
-    called-refused (start m) l e z = record {
-      frames = _;
-      run = goes _ _ _ (s .run) (run.called (frames.start m) (s .frames) l _ _ (lent-is (start m) l e) tt (keep.kept-refused (frames.start m) l _ refl z));
-      card-is = refl;
-      held-is = refl;
-      same = s .same;
-    }
+    stands : (l : Lent) → w .held ≡ some l → Refused l
+    stands l e = record { frames = s .frames; run = s .run; seen-is = s .seen-is; drive-is = s .drive-is; held-is = s .held-is ∙ e; same = s .same; before-is = s .before-is }
+
+    called-refused : (c : Call) (l : Lent) → lentTo c w ≡ some l → firstNo (asks c l) ≢ 0 → Refused (frames.handedBack (frameCall c l) l)
+    unfolding frameCall asks frames.asks
+    called-refused (start m) l e z =
+        let none-written : frames.outcome (frames.start m) l .write ≡ none = keep.outcome-refused _ (frames.doneAnswer (frames.start m) l) (frames.refused (firstNo (frames.asks (frames.start m) l))) (frames.doneWrite (frames.start m) l) (frames.after (frames.start m) l) z .1 in
+        record {
+          frames = _;
+          run = goes _ _ _ (s .run) (run.called (frames.start m) (s .frames) l _ _ (lent-is (start m) l e) tt (keep.kept-refused (frames.start m) l _ refl z));
+          seen-is = rw none-written (s .seen-is);
+          drive-is = λ t. rw none-written (s .drive-is t);
+          held-is = refl;
+          same = unfold run.told in (s .same);
+          before-is = s .before-is;
+        }
     called-refused (key o) l e z = stands l e
     called-refused (read o n x) l e z = stands l e
     called-refused (write o n at new) l e z = stands l e
@@ -208,53 +278,86 @@ module _ (m₀ card₀ : List ℕ) (accepted : firstNo (startAsks m₀ card₀) 
     called-refused pageOut l e z = stands l e
     called-refused advance l e z = stands l e
 
-    pub called-beside : (c : Call) (a : Answer) (l l′ : Lent) → lentTo c w ≡ some l → Kept c l a l′ → Hands l′ (told (called c a) b)
+    -- the world after a call
+    abbrev after : Call → Answer → Lent → Lent → World
+    after c a l l′ = record { drive = driveAfter a (outcome c l .write) (w .drive); held = some l′; complete = w .complete || isFlush a }
+
+    pub called-beside : (c : Call) (a : Answer) (l l′ : Lent) → lentTo c w ≡ some l → Kept c l a l′ → Beside (after c a l l′) (told (called c a) b)
     called-beside c a l l′ e k = go (ℕ-discrete (firstNo (asks c l)) 0)
       where
-        go : Dec (firstNo (asks c l) ≡ 0) → Hands l′ (told (called c a) b)
+        go : Dec (firstNo (asks c l) ≡ 0) → Beside (after c a l l′) (told (called c a) b)
         go (yes ok) =
             let t = done-told l c e ok in
-            record {
+            let v = s .frames .drive in
+            let o = outcome c l .write in
+            let same-drive : run.driveTold (frames.doneAnswer (frameCall c l) l) (frames.outcome (frameCall c l) l .write) v ≡ driveAfter (doneAnswer c l) o v =
+            ap (λ (x : Option BlockWrite). run.driveTold (frames.doneAnswer (frameCall c l) l) x v) (sym (write-is c l ok)) ∙ drive-done c l o v in
+            rw (kept-done c l l′ a k ok .0) (record {
               frames = _;
               run = goes _ _ _ (s .run) (run.called (frameCall c l) (s .frames) l l′ _ (lent-is c l e) (t .0) (lowered c l l′ a k ok));
-              card-is = refl;
+              seen-is = ap seen same-drive ∙ seen-after (doneAnswer c l) o v (w .drive) (s .seen-is);
+              drive-is = λ q. same-drive ∙ ⊎-elim (λ x. ap (driveAfter (doneAnswer c l) o) (s .drive-is x)) (λ x. flushed-after (doneAnswer c l) o v (w .drive) (s .seen-is) x) (either (w .complete) (isFlush (doneAnswer c l)) q);
               held-is = refl;
-              same = rw (kept-done c l l′ a k ok .0) (t .1);
-            }
-        go (no z) = let r = kept-refused c l l′ a k z in rw (r .0, r .1, told-refused c (firstNo (asks c l)) b) (called-refused c l e z)
+              same = t .1 .0;
+              before-is = t .1 .1;
+            })
+        go (no z) =
+            let r = kept-refused c l l′ a k z in
+            let none-is = block-none c l z in
+            let last : (x : Bool) → (x || false) ≡ x = λ x. or-false x in
+            rw (r .0, r .1, told-refused c (firstNo (asks c l)) b, refusal-flush c (firstNo (asks c l)), none-is, last (w .complete)) (called-refused c l e z)
 
     -- a cut
-    cut-between : Beside (record { card = w .card; held = none }) b
-    cut-between = record { frames = _; run = goes _ _ _ (s .run) (run.cutBetween (s .frames)); card-is = s .card-is; held-is = refl; same = s .same }
-
-    header-told : (reached : Bool) → Same (cond reached (bookHeader book) book) (cond reached (headerReached b) b)
-    header-told true = represents-header rs blocks area full book b (s .same)
-    header-told false = s .same
-
-    cut-within : (c : Call) (reached : Bool) (l : Lent) (card : List ℕ) → lentTo c w ≡ some l → Left (outcome c l .write) (w .card) card → ReachedIs (outcome c l .write) card reached
-        → Beside (record { card = card; held = none }) (told (cutIn c reached) b)
-    unfolding told
-    cut-within c reached l card e left r = go (ℕ-discrete (firstNo (asks c l)) 0)
+    cut-told : (reached : Bool) → Same (bookCut (s .frames .before) reached book) (cutBook (b .before) reached b) × SameBefore rs blocks area full none (cutBook (b .before) reached b .before)
+    cut-told reached = (represents-cut rs blocks area full book b (s .frames .before) (b .before) (s .before-is) reached (s .same), gone (b .before) refl reached)
       where
-        go : Dec (firstNo (asks c l) ≡ 0) → Beside (record { card = card; held = none }) (cond reached (headerReached b) b)
-        go (yes ok) = record {
+        gone : (o : Option Table) → b .before ≡ o → (t : Bool) → SameBefore rs blocks area full none (cutBook o t b .before)
+        gone none e true = tt
+        gone none e false = rw e tt
+        gone (some k) e true = tt
+        gone (some k) e false = tt
+
+    cut-between : (reached : Bool) (card : List ℕ) → w .complete ≡ true → Cut (w .drive) none card → ReachedIs (w .drive .since) card reached
+        → Beside (record { drive = settled card; held = none; complete = true }) (cutBook (b .before) reached b)
+    cut-between reached card done-first left r =
+        let d = s .drive-is done-first in
+        let t = cut-told reached in
+        record {
           frames = _;
-          run = goes _ _ _ (s .run) (run.cutWithin (frameCall c l) (s .frames) l card (cond reached (bookHeader book) book) (lent-is c l e) (done-told l c e ok .0)
-              (rw (← write-is c l ok, s .card-is) left) (cut-book (frames.outcome (frameCall c l) l .write) card reached book (rw (← write-is c l ok) r)));
-          card-is = refl;
+          run = goes _ _ _ (s .run) (run.cutBetween (s .frames) card reached (rw d left) (rw d r));
+          seen-is = refl;
+          drive-is = λ q. refl;
           held-is = refl;
-          same = header-told reached;
+          same = t .0;
+          before-is = t .1;
         }
+
+    cut-within : (c : Call) (reached : Bool) (l : Lent) (card : List ℕ) → w .complete ≡ true → lentTo c w ≡ some l → Cut (w .drive) (outcome c l .write) card
+        → ReachedIs (written (outcome c l .write) (w .drive) .since) card reached → Beside (record { drive = settled card; held = none; complete = true }) (cutBook (b .before) reached b)
+    cut-within c reached l card done-first e left r = go (ℕ-discrete (firstNo (asks c l)) 0)
+      where
+        go : Dec (firstNo (asks c l) ≡ 0) → Beside (record { drive = settled card; held = none; complete = true }) (cutBook (b .before) reached b)
+        go (yes ok) =
+            let d = s .drive-is done-first in
+            let t = cut-told reached in
+            record {
+              frames = _;
+              run = goes _ _ _ (s .run) (run.cutWithin (frameCall c l) (s .frames) l card reached (lent-is c l e) (done-told l c e ok .0) (rw (← write-is c l ok, d) left) (rw (← write-is c l ok, d) r));
+              seen-is = refl;
+              drive-is = λ q. refl;
+              held-is = refl;
+              same = t .0;
+              before-is = t .1;
+            }
         go (no z) =
             let none-is = block-none c l z in
-            let card-same : card ≡ w .card = rw none-is at left in
-            let unreached : reached ≡ false = rw none-is at r in
-            rw (card-same, unreached) cut-between
+            cut-between reached card done-first (subst (λ (x : Option BlockWrite). Cut (w .drive) x card) none-is left)
+            (subst (λ (x : Option BlockWrite). ReachedIs (written x (w .drive) .since) card reached) none-is r)
 
   step-beside : (e : Event) (u v : World) (b : Book) → Step e u v → Beside u b → Beside v (told e b)
   step-beside e u v b (calls c a w l l′ q k) s = called-beside u b s c a l l′ q k
-  step-beside e u v b (cutWithin c reached w l card q left r) s = cut-within u b s c reached l card q left r
-  step-beside e u v b (cutBetween w) s = unfold told in (cut-between u b s)
+  step-beside e u v b (cutWithin c reached w l card f q left r) s = unfold told in (cut-within u b s c reached l card f q left r)
+  step-beside e u v b (cutBetween reached w card f left r) s = unfold told in (cut-between u b s reached card f left r)
 
   pub run-beside : (es : List Event) (u w : World) (b : Book) → Run es u w → Beside u b → Beside w (bookAfter es b)
   unfolding bookAfter

@@ -8,34 +8,35 @@ use mathlib.Core.Option.{Option, none, some, Option·getD}
 use Rattle.card.specs.Bytes.{patch, zeros}
 use Rattle.pages.specs.Page.{Page, emptyPage}
 use Rattle.pages.specs.Promise.{Call, start, key, read, write, rescind, snapshot, pageOut, advance, Answer, refused, done, counted, filled, wrote}
-use Rattle.recovery.specs.Step.{page, directory, trailer, migration, header}
+use Rattle.recovery.specs.Step.{page, directory, trailer, migration, header, flush}
 
 -- a page for each OID; those of the ranges matter
 abbrev pub Table : Type 0
 Table = ℕ → Page
 
--- what is present; what the last snapshot marked, until a header write reaches the card or a start empties it; what is kept
+-- what is present; what the last snapshot marked, until a header write reaches the card or a start empties it; what is kept; what was kept before the last header write, while that is not flushed
 pub record Book : Type 0 where
   pub present : Table
   pub marked : Option Table
   pub kept : Table
+  pub before : Option Table
 
--- what the book is fed: a call with its answer; a cut in a call, with whether the header write being made, if any, reached the card; a cut between calls
+-- what the book is fed: a call with its answer; a cut in a call and a cut between calls, each with whether the header write being made or not flushed, if any, reached the card
 pub data Event : Type 0 where
   called : Call → Answer → Event
   cutIn : Call → (reached : Bool) → Event
-  cut : Event
+  cut : (reached : Bool) → Event
 
 -- format: present and kept all zeros, marked empty
 abbrev pub formatBook : Book
-formatBook = record { present = λ o. emptyPage; marked = none; kept = λ o. emptyPage }
+formatBook = record { present = λ o. emptyPage; marked = none; kept = λ o. emptyPage; before = none }
 
 -- a table with another row
 unfoldable pub update : {A : Type 0} → ℕ → A → (ℕ → A) → ℕ → A
 update oid x t o = cond (eqb o oid) x (t o)
 
 abbrev pub presentTo : Table → Book → Book
-presentTo t b = record { present = t; marked = b .marked; kept = b .kept }
+presentTo t b = record { present = t; marked = b .marked; kept = b .kept; before = b .before }
 
 -- a page after a write and after a rescind
 abbrev pub written : ℕ → List ℕ → Page → Page
@@ -44,11 +45,20 @@ written at new x = record { bytes = patch (x .bytes) at new; count = x .count }
 abbrev pub rescinded : Page → Page
 rescinded x = record { bytes = zeros; count = suc (x .count) }
 
--- a header write reached the card: kept becomes marked, unless that is empty
+-- a header write reached the card: kept becomes marked, unless that is empty; until it is flushed, a cut may still find it old
 abbrev pub headerReached : Book → Book
-headerReached b = record { present = b .present; marked = none; kept = Option·getD (b .marked) (b .kept) }
+headerReached b = record { present = b .present; marked = none; kept = Option·getD (b .marked) (b .kept); before = some (b .kept) }
 
--- is a call done; is a header reported
+-- it is flushed
+abbrev pub flushedBook : Book → Book
+flushedBook b = record { present = b .present; marked = b .marked; kept = b .kept; before = none }
+
+-- A cut. A header write that was not flushed is found, or is found old, and kept is as before it. Without one, the header write being made, if any, has reached the card or not.
+abbrev pub cutBook : Option Table → Bool → Book → Book
+cutBook none reached b = cond reached (flushedBook (headerReached b)) b
+cutBook (some k) reached b = record { present = b .present; marked = b .marked; kept = cond reached (b .kept) k; before = none }
+
+-- is a call done; is a header reported; is a flush
 unfoldable pub isDone : Answer → Bool
 isDone (refused n) = false
 isDone done = true
@@ -66,19 +76,32 @@ isHeader (wrote directory n) = false
 isHeader (wrote trailer n) = false
 isHeader (wrote migration n) = false
 isHeader (wrote header n) = true
+isHeader (wrote flush n) = false
+
+unfoldable pub isFlush : Answer → Bool
+isFlush (refused n) = false
+isFlush done = false
+isFlush (counted n) = false
+isFlush (filled n x) = false
+isFlush (wrote page n) = false
+isFlush (wrote directory n) = false
+isFlush (wrote trailer n) = false
+isFlush (wrote migration n) = false
+isFlush (wrote header n) = false
+isFlush (wrote flush n) = true
 
 -- the book after an event
 unfoldable pub told : Event → Book → Book
-told (called (start m) a) b = cond (isDone a) (record { present = b .kept; marked = none; kept = b .kept }) b
+told (called (start m) a) b = cond (isDone a) (record { present = b .kept; marked = none; kept = b .kept; before = b .before }) b
 told (called (key o) a) b = b
 told (called (read o n x) a) b = b
 told (called (write o n at new) a) b = cond (isDone a) (presentTo (update o (written at new (b .present o)) (b .present)) b) b
 told (called (rescind o n) a) b = cond (isDone a) (presentTo (update o (rescinded (b .present o)) (b .present)) b) b
-told (called snapshot a) b = cond (isDone a) (record { present = b .present; marked = some (b .present); kept = b .kept }) b
+told (called snapshot a) b = cond (isDone a) (record { present = b .present; marked = some (b .present); kept = b .kept; before = b .before }) b
 told (called pageOut a) b = b
-told (called advance a) b = cond (isHeader a) (headerReached b) b
-told (cutIn c reached) b = cond reached (headerReached b) b
-told cut b = b
+told (called advance a) b = cond (isHeader a) (headerReached b) (cond (isFlush a) (flushedBook b) b)
+told (cutIn c reached) b = cutBook (b .before) reached b
+told (cut reached) b = cutBook (b .before) reached b
 
 unfoldable pub bookAfter : List Event → Book → Book
 bookAfter [] b = b

@@ -1,36 +1,37 @@
 -- DEMAND 3, the statement.
 --
--- Take any card, with any bytes, on which format reports done. Let any list of events follow: the eight calls with any arguments, done or refused by their own
--- promises; a start with any memory, first, after a cut or at any time; a cut between two calls; a cut in a call, which leaves the block that the call writes old,
--- new or, unless it is block 0, with any bytes. Any number of each, in any order. Each call is lent what the last one left; nobody else touches card, record or memory.
+-- Take any card, with any bytes, on which format reports done, and a drive that puts writes down in an order of its own (document 02, #110). Let any list of events follow: the eight calls
+-- with any arguments, done or refused by their own promises; a start with any memory, first, after a cut or at any time; a cut between two calls; a cut in a call. The program flushes
+-- where advance reports F. A cut leaves any of the writes since the last flush, the one being made included, put down in any order, and at most one of them torn, with any bytes; block 0 is found
+-- whole. There is no cut before the first F is done. Any number of each, in any order. Each call is lent what the last one left; nobody else touches drive, record or memory.
 --
 -- Then a start that is lent any 4 to 64 whole frames is done and writes nothing, and for every OID of the ranges key gives the count that the book keeps, and
 -- read with that key the bytes that it keeps: those of the last snapshot whose header write reached the card, or of format.
 -- Assumes nothing.
 use Prim.Native.Nat.{ℕ, _+_, _/_, _≤_, _<_}
 use lib.ListN.{length}
-use mathlib.Core.Bool.{Bool, true, false}
+use mathlib.Core.Bool.{Bool, true, false, cond, _||_}
 use mathlib.Core.List.{List, [], _∷_}
-use mathlib.Core.Logic.{_⊎_}
 use mathlib.Core.Option.{Option, none, some}
 use mathlib.Core.Path.{_≡_}
 use Rattle.card.specs.Block.{whole}
 use Rattle.card.specs.Range.{rangeIn}
 use Rattle.frames.specs.Promise.{Lent, lent}
-use Rattle.pages.specs.Book.{Event, called, cutIn, cut, formatBook, bookAfter}
+use Rattle.pages.specs.Book.{Event, called, cutIn, cut, isFlush, formatBook, bookAfter}
 use Rattle.pages.specs.Page.{Page}
 use Rattle.pages.specs.Promise.{Call, start, key, read, write, rescind, snapshot, pageOut, advance, Answer, done, counted, filled, outcome, Kept, FormatKept}
 use Rattle.record.specs.Meaning.{zeroStore}
-use Rattle.recovery.specs.Write.{BlockWrite, Left, Reached}
+use Rattle.recovery.specs.Write.{BlockWrite, Drive, seen, settled, written, Cut, ReachedIs}
 
--- the card, and what is held between calls: nothing before the first start and after a cut
+-- the drive; what is held between calls: nothing before the first start and after a cut; and whether the format is complete, which it is at the first F after it
 pub record World : Type 0 where
-  pub card : List ℕ
+  pub drive : Drive
   pub held : Option Lent
+  pub complete : Bool
 
 -- start takes no earlier record; every other call is lent what is held
 abbrev pub lentTo : Call → World → Option Lent
-lentTo (start m) w = some (lent zeroStore m (w .card))
+lentTo (start m) w = some (lent zeroStore m (seen (w .drive)))
 lentTo (key o) w = w .held
 lentTo (read o n x) w = w .held
 lentTo (write o n at new) w = w .held
@@ -39,17 +40,18 @@ lentTo snapshot w = w .held
 lentTo pageOut w = w .held
 lentTo advance w = w .held
 
--- whether the header write being made, if any, reached the card
-abbrev pub ReachedIs : Option BlockWrite → List ℕ → Bool → Type 0
-ReachedIs none card reached = reached ≡ false
-ReachedIs (some w) card reached = (Reached w card × (reached ≡ true)) ⊎ ((Reached w card → ⊥) × (reached ≡ false))
+-- a call's write joins those that are not flushed; where F is reported the program flushes all of them
+abbrev pub driveAfter : Answer → Option BlockWrite → Drive → Drive
+driveAfter a o v = cond (isFlush a) (settled (seen v)) (written o v)
 
--- a call, done or refused, by its own promise; a cut in a call, which leaves its block old, new or torn; a cut between calls
+-- a call, done or refused, by its own promise; a cut in a call, whose write is then one of those that are not flushed; a cut between calls. A cut leaves nothing unflushed.
 pub data Step : Event → World → World → Type 0 where
-  calls : (c : Call) (a : Answer) (w : World) (l l′ : Lent) → lentTo c w ≡ some l → Kept c l a l′ → Step (called c a) w (record { card = l′ .card; held = some l′ })
-  cutWithin : (c : Call) (reached : Bool) (w : World) (l : Lent) (card : List ℕ) → lentTo c w ≡ some l → Left (outcome c l .write) (w .card) card
-      → ReachedIs (outcome c l .write) card reached → Step (cutIn c reached) w (record { card = card; held = none })
-  cutBetween : (w : World) → Step cut w (record { card = w .card; held = none })
+  calls : (c : Call) (a : Answer) (w : World) (l l′ : Lent) → lentTo c w ≡ some l → Kept c l a l′
+      → Step (called c a) w (record { drive = driveAfter a (outcome c l .write) (w .drive); held = some l′; complete = w .complete || isFlush a })
+  cutWithin : (c : Call) (reached : Bool) (w : World) (l : Lent) (card : List ℕ) → w .complete ≡ true → lentTo c w ≡ some l → Cut (w .drive) (outcome c l .write) card
+      → ReachedIs (written (outcome c l .write) (w .drive) .since) card reached → Step (cutIn c reached) w (record { drive = settled card; held = none; complete = true })
+  cutBetween : (reached : Bool) (w : World) (card : List ℕ) → w .complete ≡ true → Cut (w .drive) none card → ReachedIs (w .drive .since) card reached
+      → Step (cut reached) w (record { drive = settled card; held = none; complete = true })
 
 -- a whole list of events
 pub data Run : List Event → World → World → Type 0 where
@@ -65,10 +67,11 @@ abbrev pub Shows : Lent → ℕ → Page → Type 0
 Shows l oid p = (a b : Answer) (l₁ l₂ : Lent) (buffer : List ℕ) → length buffer ≡ 512 → Kept (key oid) l a l₁ → Kept (read oid (p .count) buffer) l₁ b l₂
     → (a ≡ counted (p .count)) × (b ≡ filled 0 (p .bytes))
 
+-- the drive after a format: any of which the card that is seen is the formatted one
 abbrev pub Demand3 : Type 0
 Demand3 = (area : ℕ) (numbers before card : List ℕ) → FormatKept area numbers before done card
-    → (es : List Event) (w : World) → Run es (record { card = card; held = none }) w
+    → (v : Drive) → seen v ≡ card → (es : List Event) (w : World) → Run es (record { drive = v; held = none; complete = false }) w
     → (m : List ℕ) → whole 4 64 (length m) ≡ true
-    → (a : Answer) (l : Lent) → Kept (start m) (lent zeroStore m (w .card)) a l
-    → (a ≡ done) × (l .card ≡ w .card)
+    → (a : Answer) (l : Lent) → Kept (start m) (lent zeroStore m (seen (w .drive))) a l
+    → (a ≡ done) × (l .card ≡ seen (w .drive))
     × ((oid : ℕ) → OfRanges numbers oid → Shows l oid (bookAfter es formatBook .kept oid))

@@ -5,7 +5,7 @@
 use Prim.Native.Nat.{ℕ, _+_}
 use lib.Dec.{leb, ltb, eqb}
 use lib.ListN.{length, replicate}
-use mathlib.Core.Bool.{Bool, true, false, cond, _||_}
+use mathlib.Core.Bool.{Bool, true, false, cond, _||_, not}
 use mathlib.Core.List.{List, [], _∷_}
 use mathlib.Core.Option.{Option, none, some}
 use Rattle.card.specs.Header.{headerBlock}
@@ -21,8 +21,8 @@ use Rattle.pages.specs.Promise.{Call, start, key, read, write, rescind, 
 use Rattle.recovery.specs.Book.{FrameBook, markedOr, bookChange, bookSnapshot, bookWrote}
 use Rattle.recovery.specs.Contents.{Contents, FrameBytes}
 use Rattle.recovery.specs.Directory.{frameOf}
-use Rattle.recovery.specs.State.{Generation, State, readFrame}
-use Rattle.recovery.specs.Step.{pendingTo, currentTo, afterChange, afterSnapshot, Kind, page, directory, trailer, migration, header, tailWrite, trailerBlockNo, nextMigration, afterPageOut}
+use Rattle.recovery.specs.State.{Generation, State, readFrame, isOwed}
+use Rattle.recovery.specs.Step.{pendingTo, currentTo, afterChange, afterSnapshot, Kind, page, directory, trailer, migration, header, flush, kindPut, tailWrite, trailerBlockNo, nextMigration, afterPageOut}
 use Rattle.recovery.specs.Sums.{roomSums, advanceSums, remainingWrites, firstOf}
 use Rattle.recovery.specs.Write.{BlockWrite}
 
@@ -71,7 +71,7 @@ writeTouches r new p = cond (eqb (length new) 0) [] (touched (p .page) ∷ cond 
 abbrev pub rescindTouches : Address → List FrameBytes
 rescindTouches p = touched (p .pot) ∷ []
 
--- ---- questions: 9 by the ranges, 10, 11, 15 and k by the rows, 12 to 14 and 20 by sums over the ledger, 16 to 19 by what is marked, changed, committed and waiting; never 1, 2 or 3
+-- ---- questions: 9 by the ranges, 10, 11, 15 and k by the rows, 12 to 14 and 20 by sums over the ledger, 16 to 19 and 28 by what is marked, changed, committed, waiting and flushed; never 1, 2 or 3
 
 abbrev pub isNone : Option Contents → Bool
 isNone none = true
@@ -84,10 +84,10 @@ plainAsks (read o n x) t = placed (plainAddress t o) (λ p. ask 10 (eqb (t .rows
 plainAsks (write o n at new) t = placed (plainAddress t o) (λ p. ask 10 (eqb (t .rows o .page .count) n) ∷ ask 11 (leb (at + length new) 512) ∷ roomSums (writeTouches (t .rows o) new p) (t .ledger))
 plainAsks (rescind o n) t = placed (plainAddress t o) (λ p. ask 10 (eqb (t .rows o .page .count) n) ∷ ask 15 (ltb n 4294967295) ∷ roomSums (rescindTouches p) (t .ledger))
 plainAsks snapshot t = ask 16 (isNone (t .frames .marked)) ∷ ask 17 (t .changed) ∷ ask 18 (ltb (t .ledger .commit) 4294967295) ∷ []
-plainAsks pageOut t = ask 19 (ltb 0 (length (t .ledger .pending .waiting)) || ltb 0 (length (t .ledger .current .waiting))) ∷ []
+plainAsks pageOut t = ask 28 (not (isOwed (t .ledger .phase))) ∷ ask 19 (ltb 0 (length (t .ledger .pending .waiting)) || ltb 0 (length (t .ledger .current .waiting))) ∷ []
 plainAsks advance t = advanceSums (t .ledger)
 
--- ---- blocks written: a page-out's is the next place, with what was marked or is present of its frame; M's is the frame's home, with what is kept of it
+-- ---- blocks written: a page-out's is the next place, with what was marked or is present of its frame; M's is the frame's home, with what is kept of it; a flush reports block 0 and writes none
 
 abbrev pub plainOut : Generation → ℕ → Contents → BlockWrite
 plainOut g area v = record { block = ringAt area (g .first) (g .pagesDown); bytes = v (frameOf (g .pagesDown) (g .entries)) }
@@ -98,6 +98,7 @@ plainKind directory t = tailWrite (t .ledger)
 plainKind trailer t = tailWrite (t .ledger)
 plainKind migration t = record { block = nextMigration (t .ledger) .frame; bytes = t .frames .kept (nextMigration (t .ledger) .frame) }
 plainKind header t = record { block = 0; bytes = headerBlock (1 + t .ledger .commit) (trailerBlockNo (t .ledger)) (t .ledger .area) (t .ledger .ranges) }
+plainKind flush t = record { block = 0; bytes = [] }
 
 unfoldable pub plainPageOut : Plain → BlockWrite
 plainPageOut t = cond (ltb 0 (length (t .ledger .pending .waiting))) (plainKind page t) (plainOut (t .ledger .current) (t .ledger .area) (t .frames .present))
@@ -133,7 +134,7 @@ unfoldable pub plainAdvance : Option Kind → Plain → PlainOutcome
 plainAdvance none t = answers (refused 20) t
 plainAdvance (some k) t = record {
   answer = wrote k (plainKind k t .block);
-  write = some (plainKind k t);
+  write = kindPut k (plainKind k t);
   next = record { rows = t .rows; changed = t .changed; ledger = advanced (some k) (t .ledger); frames = bookWrote k (t .frames) };
 }
 

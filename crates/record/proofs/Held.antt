@@ -4,9 +4,10 @@ use Prim.Native.Nat.{ℕ, _+_, _≤_, _<_}
 use borrow.Author.Tests.{ltb-true, leb-true, eqb-true, eqb-false, lt-ltb, le-leb, eq-eqb, ne-eqb}
 use lib.Dec.{leb, ltb, eqb}
 use lib.ListN.{getD}
-use mathlib.Core.Bool.{true, cond}
+use mathlib.Core.Bool.{true, false≢true}
 use mathlib.Core.Logic.{_≢_, ⊎-elim}
 use mathlib.Core.Path.{_≡_, refl}
+use native.Mathlib.Decide.{ℕ-discrete}
 use native.Mathlib.Omega.{arith}
 use Rattle.card.proofs.RangeLaws.{geometry-tells}
 use Rattle.card.proofs.Test.{byTest, both, joined, le-or-lt, each-at, each-all}
@@ -16,7 +17,7 @@ use Rattle.card.specs.Range.{rangesOf, geometryFits}
 use Rattle.card.specs.Ring.{half}
 use Rattle.record.proofs.HoldTests.{sizes-tell, spans-small, none-told, some-told, committed-told, down-told, no-pending, any-pending, few-pending, current-told}
 use Rattle.record.proofs.Tests.{within-each, each-within, once-apart, apart-once, alone-stands, stands-alone}
-use Rattle.record.specs.Holds.{geometryHolds, committedHolds, pendingHolds, currentHolds, sizesHold, tailFor, orderHolds, memoryHolds, countsHold, spansHold, changesHold, holdsTogether}
+use Rattle.record.specs.Holds.{geometryHolds, committedHolds, pendingHolds, currentHolds, sizesHold, tailFor, tailHolds, flushedHolds, phaseHolds, orderHolds, memoryHolds, countsHold, spansHold, changesHold, holdsTogether}
 use Rattle.record.specs.Lists.{cells, once, allWithin}
 use Rattle.record.specs.Meaning.{waits, sizeOf, committedSizeOf}
 use Rattle.record.specs.declared.store.Changes.{Changes}
@@ -62,6 +63,45 @@ module _ (area blocks : ℕ) (g : Changes) where
       let p = h .stands k a (omega arith) in
       stands-alone (λ i. getD (g .places) i 0) k 0 (g .count) (p .0, omega arith, omega (arith, p .1), p .2, λ j c d q. p .3 j (omega arith) q)))))
 
+-- ---- how flushes stand
+
+pub record PhaseTold (phase migrated committed tail pending : ℕ) : Type 0 where
+  pub known : phase ≤ 2
+  pub after : phase ≡ 1 → (0 < pending) × (tail ≡ tailFor pending) × (committed ≤ migrated)
+  pub before : phase ≡ 2 → (migrated ≡ 0) × (tail ≡ 0)
+
+tail-told : (tail waiting : ℕ) → tailHolds tail waiting ≡ true → 0 < tail → waiting ≡ 0
+unfolding tailHolds
+tail-told tail waiting e l = eqb-true waiting 0 (rw (ne-eqb tail 0 (omega arith)) at e)
+
+phase-told : (phase migrated committed tail pending : ℕ) → phaseHolds phase migrated committed tail pending ≡ true → PhaseTold phase migrated committed tail pending
+unfolding phaseHolds flushedHolds
+phase-told phase migrated committed tail pending e = go (ℕ-discrete phase 0) (ℕ-discrete phase 1) (ℕ-discrete pending 0)
+  where
+    go : Dec (phase ≡ 0) → Dec (phase ≡ 1) → Dec (pending ≡ 0) → PhaseTold phase migrated committed tail pending
+    go (yes z) q r = record { known = omega arith; after = λ o. absurd (omega (arith, z, o)); before = λ o. absurd (omega (arith, z, o)) }
+    go (no d) (yes o) (yes n) = absurd (false≢true (rw (ne-eqb phase 0 d, eq-eqb phase 1 o, eq-eqb pending 0 n) at e))
+    go (no d) (yes o) (no n) =
+        let a = both (eqb tail (tailFor pending)) _ (rw (ne-eqb phase 0 d, eq-eqb phase 1 o, ne-eqb pending 0 n) at e) in
+        record { known = omega arith; after = λ x. (omega (arith, n), eqb-true _ _ (a .0), leb-true _ _ (a .1)); before = λ x. absurd (omega (arith, o, x)) }
+    go (no d) (no o) r =
+        let a = both (eqb phase 2) _ (rw (ne-eqb phase 0 d, ne-eqb phase 1 o) at e) in
+        let b = both (eqb migrated 0) _ (a .1) in
+        let two : phase ≡ 2 = eqb-true phase 2 (a .0) in
+        record { known = omega arith; after = λ x. absurd (o x); before = λ x. (eqb-true migrated 0 (b .0), eqb-true tail 0 (b .1)) }
+
+phase-back : (phase migrated committed tail pending : ℕ) → PhaseTold phase migrated committed tail pending → phaseHolds phase migrated committed tail pending ≡ true
+unfolding phaseHolds flushedHolds
+phase-back phase migrated committed tail pending t = go (ℕ-discrete phase 0) (ℕ-discrete phase 1)
+  where
+    go : Dec (phase ≡ 0) → Dec (phase ≡ 1) → phaseHolds phase migrated committed tail pending ≡ true
+    go (yes z) q = rw (eq-eqb phase 0 z)
+    go (no d) (yes o) = let a = t .after o in rw (ne-eqb phase 0 d, eq-eqb phase 1 o, ne-eqb pending 0 (omega (arith, a .0))) (joined _ _ (eq-eqb tail (tailFor pending) (a .1)) (le-leb _ _ (a .2)))
+    go (no d) (no o) =
+        let two : phase ≡ 2 = omega (arith, t .known, d, o) in
+        let b = t .before two in
+        rw (ne-eqb phase 0 d, ne-eqb phase 1 o) (joined _ _ (eq-eqb phase 2 two) (joined _ _ (eq-eqb migrated 0 (b .0)) (eq-eqb tail 0 (b .1))))
+
 -- question 2 as named facts
 pub record Held (s : Store) : Type 0 where
   pub geometry : geometryFits (s .geometry .blocks) (s .geometry .area) (rangesOf (s .geometry .ranges) (s .geometry .count)) ≡ true
@@ -83,6 +123,9 @@ pub record Held (s : Store) : Type 0 where
   pub migrated-within : s .migrated ≤ s .committed .count
   pub tail-within : s .tail ≤ tailFor (s .pending .count)
   pub tail-after : 0 < s .tail → waits (s .pending) ≡ 0
+  pub phase-known : s .phase ≤ 2
+  pub flushed-after : s .phase ≡ 1 → (0 < s .pending .count) × (s .tail ≡ tailFor (s .pending .count)) × (s .committed .count ≤ s .migrated)
+  pub owed-before : s .phase ≡ 2 → (s .migrated ≡ 0) × (s .tail ≡ 0)
   pub head-low : s .head < s .frames
   pub seated : waits (s .pending) + waits (s .current) ≤ s .frames
   pub committed : entriesFit (s .geometry .blocks) (s .geometry .area) (s .first) (s .pages) (s .geometry .area) (entriesOf (s .committed .frames) (s .committed .blocks) (s .committed .count)) ≡ true
@@ -115,10 +158,12 @@ held s h =
     let c = both (pendingHolds (s .commit) (s .pending .taken) (s .pending .count) (s .pending .down)) _ (b .1) in
     let d = current-told (s .current .taken) (s .current .count) (s .current .down) (c .1) in
     let sizes = both (sizesHold area (committedSizeOf s) (sizeOf (s .pending)) (sizeOf (s .current))) _ (spans .0) in
-    let rest = both (orderHolds (s .migrated) (s .committed .count) (s .tail) (s .pending .count) (waits (s .pending))) _ (sizes .1) in
+    let rest = both (orderHolds (s .migrated) (s .committed .count) (s .tail) (s .pending .count) (waits (s .pending)) (s .phase)) _ (sizes .1) in
     let k = sizes-tell area (committedSizeOf s) (sizeOf (s .pending)) (sizeOf (s .current)) (sizes .0) in
     let m = both (leb (s .migrated) (s .committed .count)) _ (rest .0) in
     let n = both (leb (s .tail) (tailFor (s .pending .count))) _ (m .1) in
+    let t = both (tailHolds (s .tail) (waits (s .pending))) _ (n .1) in
+    let ph = phase-told (s .phase) (s .migrated) (s .committed .count) (s .tail) (s .pending .count) (t .1) in
     let o = both (ltb (s .head) (s .frames)) _ (rest .1) in
     let low : 8 ≤ s .geometry .area = geometry-tells _ _ _ (a .0) .area-low in
     let p = committed-told (s .commit) (s .geometry .area) (s .first) (s .pages) (s .committed .count) (b .0) (omega arith) in
@@ -141,7 +186,10 @@ held s h =
       room = k .all;
       migrated-within = leb-true _ _ (m .0);
       tail-within = leb-true _ _ (n .0);
-      tail-after = λ l. eqb-true (waits (s .pending)) 0 (rw (ne-eqb (s .tail) 0 (omega arith)) at (n .1));
+      tail-after = λ l. tail-told (s .tail) (waits (s .pending)) (t .0) l;
+      phase-known = ph .known;
+      flushed-after = ph .after;
+      owed-before = ph .before;
       head-low = ltb-true _ _ (o .0);
       seated = leb-true _ _ (o .1);
       committed = listing .0;
@@ -150,7 +198,7 @@ held s h =
     }
 
 pub together : (s : Store) → Held s → holdsTogether s ≡ true
-unfolding holdsTogether countsHold geometryHolds committedHolds pendingHolds currentHolds spansHold sizesHold orderHolds memoryHolds
+unfolding holdsTogether countsHold geometryHolds committedHolds pendingHolds currentHolds spansHold sizesHold orderHolds tailHolds memoryHolds
 together s h =
     joined (countsHold s) _
     (joined (geometryFits (s .geometry .blocks) (s .geometry .area) (rangesOf (s .geometry .ranges) (s .geometry .count))) _ (h .geometry)
@@ -162,9 +210,9 @@ together s h =
     (joined (leb (committedSizeOf s) (half (s .geometry .area))) _ (le-leb _ _ (h .half-committed))
     (joined (leb (sizeOf (s .pending)) (half (s .geometry .area))) _ (le-leb _ _ (h .half-pending))
     (joined (leb (sizeOf (s .current)) (half (s .geometry .area))) _ (le-leb _ _ (h .half-current)) (le-leb _ _ (h .room)))))
-    (joined (orderHolds (s .migrated) (s .committed .count) (s .tail) (s .pending .count) (waits (s .pending))) _
+    (joined (orderHolds (s .migrated) (s .committed .count) (s .tail) (s .pending .count) (waits (s .pending)) (s .phase)) _
     (joined (leb (s .migrated) (s .committed .count)) _ (le-leb _ _ (h .migrated-within))
-    (joined (leb (s .tail) (tailFor (s .pending .count))) _ (le-leb _ _ (h .tail-within)) tail-yes))
+    (joined (leb (s .tail) (tailFor (s .pending .count))) _ (le-leb _ _ (h .tail-within)) (joined (tailHolds (s .tail) (waits (s .pending))) _ tail-yes phase-yes)))
     (joined (ltb (s .head) (s .frames)) _ (lt-ltb _ _ (h .head-low)) (le-leb _ _ (h .seated)))))
     (joined (entriesFit (s .geometry .blocks) (s .geometry .area) (s .first) (s .pages) (s .geometry .area) (entriesOf (s .committed .frames) (s .committed .blocks) (s .committed .count))) _ (h .committed)
     (joined (changesHold (s .geometry .area) (s .geometry .blocks) (s .pending)) _ (listed-back (s .geometry .area) (s .geometry .blocks) (s .pending) (h .pending))
@@ -181,7 +229,10 @@ together s h =
         (λ z. eq-eqb _ _ (h .none-pending (eqb-true _ _ z)))
         (λ z. let ne : s .pending .count ≢ 0 = eqb-false _ _ z in joined (leb (s .pending .count) (s .pending .taken)) _ (le-leb _ _ (h .pending-few)) (lt-ltb _ _ (h .commit-limit (omega arith)))))
 
-    tail-yes : cond (eqb (s .tail) 0) true (eqb (waits (s .pending)) 0) ≡ true
+    phase-yes : phaseHolds (s .phase) (s .migrated) (s .committed .count) (s .tail) (s .pending .count) ≡ true
+    phase-yes = phase-back (s .phase) (s .migrated) (s .committed .count) (s .tail) (s .pending .count) (record { known = h .phase-known; after = h .flushed-after; before = h .owed-before })
+
+    tail-yes : tailHolds (s .tail) (waits (s .pending)) ≡ true
     tail-yes = byTest (λ t. t ≡ true) (eqb (s .tail) 0) (λ z. refl) (λ z. let ne : s .tail ≢ 0 = eqb-false _ _ z in eq-eqb _ _ (h .tail-after (omega arith)))
 
 -- ---- bounds

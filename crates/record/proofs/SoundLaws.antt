@@ -4,7 +4,7 @@ use Prim.Native.Nat.{ℕ, zero, suc, _+_, _*_, _≤_, _<_}
 use borrow.Author.Tests.{eq-eqb, ne-eqb}
 use lib.Dec.{ltb}
 use lib.ListN.{length, getD}
-use mathlib.Core.Bool.{true}
+use mathlib.Core.Bool.{true, false≢true}
 use mathlib.Core.List.{List, [], _∷_, _++_}
 use mathlib.Core.Logic.{_≢_, ⊎-elim}
 use mathlib.Core.Path.{_≡_, refl, ap, sym, _∙_}
@@ -20,12 +20,12 @@ use Rattle.card.proofs.Test.{byTest, apart}
 use Rattle.card.specs.Block.{blockAt}
 use Rattle.card.specs.Bytes.{tabulate, All}
 use Rattle.card.specs.Directory.{entryIn, entriesOf}
-use Rattle.card.specs.Ring.{generationSize}
+use Rattle.card.specs.Ring.{generationSize, dirBlocks}
 use Rattle.card.specs.declared.directory.Entry.{Entry}
 use Rattle.record.proofs.Held.{Listed, Held, held}
 use Rattle.record.proofs.SeatLaws.{seat-low, seat-apiece}
 use Rattle.record.specs.Holds.{tailFor, holdsTogether}
-use Rattle.record.specs.Meaning.{sizeOf, waits, noteIn, notesOf, committedSizeOf, seatAt, queueOf, generationOf, committedOf, pendingFirst, currentFirst, stateOf}
+use Rattle.record.specs.Meaning.{sizeOf, waits, noteIn, notesOf, committedSizeOf, seatAt, queueOf, generationOf, committedOf, pendingFirst, currentFirst, phaseOf, stateOf}
 use Rattle.record.specs.declared.store.Changes.{Changes}
 use Rattle.record.specs.declared.store.Store.{Store}
 use Rattle.recovery.proofs.Accept.{entries-told}
@@ -33,7 +33,7 @@ use Rattle.recovery.proofs.ContentsLaws.{all-byFrame}
 use Rattle.recovery.specs.Book.{WholeFrame}
 use Rattle.recovery.specs.Directory.{Note, downEntries, dirOf, frameOf, waitingFrom}
 use Rattle.recovery.specs.Sound.{Unnoted, Single, Holds, Ordered, Home, Between, Sound, Seated}
-use Rattle.recovery.specs.State.{places, size, committedSize, directoryOf, waitingFrames}
+use Rattle.recovery.specs.State.{places, size, committedSize, directoryOf, waitingFrames, isOwed, isFlushed}
 
 -- ---- the notes of a generation
 
@@ -170,6 +170,30 @@ module _ (s : Store) (h : Held s) where
         all-tab (λ x. length x ≡ 512) (λ k. blockAt m (seatAt (s .frames) (s .head) k)) i n
         (λ k a b. let c : seatAt (s .frames) (s .head) k < s .frames = seat-low (s .frames) (s .head) k (h .head-low) (omega arith) in block-length m (seatAt (s .frames) (s .head) k) (omega arith))
 
+-- ---- how flushes stand
+
+tail-some : (e : ℕ) → 0 < e → tailFor e ≡ dirBlocks e + 1
+unfolding tailFor
+tail-some e l = rw (ne-eqb e 0 (omega (arith, l)))
+
+pub phase-flushed : (n : ℕ) → isFlushed (phaseOf n) ≡ true → n ≡ 1
+unfolding phaseOf
+phase-flushed n e = go (ℕ-discrete n 0) (ℕ-discrete n 1)
+  where
+    go : Dec (n ≡ 0) → Dec (n ≡ 1) → n ≡ 1
+    go (yes z) q = absurd (false≢true (rw (eq-eqb n 0 z) at e))
+    go (no d) (yes o) = o
+    go (no d) (no o) = absurd (false≢true (rw (ne-eqb n 0 d, ne-eqb n 1 o) at e))
+
+pub phase-owed : (n : ℕ) → n ≤ 2 → isOwed (phaseOf n) ≡ true → n ≡ 2
+unfolding phaseOf
+phase-owed n l e = go (ℕ-discrete n 0) (ℕ-discrete n 1)
+  where
+    go : Dec (n ≡ 0) → Dec (n ≡ 1) → n ≡ 2
+    go (yes z) q = absurd (false≢true (rw (eq-eqb n 0 z) at e))
+    go (no d) (yes o) = absurd (false≢true (rw (ne-eqb n 0 d, eq-eqb n 1 o) at e))
+    go (no d) (no o) = omega (arith, l, d, o)
+
 -- a committed entry names a block of the area and a block of the card
 pub entry-inside : (s : Store) → Held s → (i : ℕ) → i < s .committed .count → (getD (s .committed .blocks) i 0 ≤ s .geometry .area) × (getD (s .committed .frames) i 0 < s .geometry .blocks)
 unfolding entriesOf
@@ -214,6 +238,10 @@ sound s m q long =
       migrated-within = rw count (h .migrated-within);
       tail-within = rw (pending-size s h m) (tail-fits s h);
       tail-after = λ l. p ∙ h .tail-after l;
+      flushed-after = λ e. let a = h .flushed-after (phase-flushed (s .phase) e) in
+          let full : tailFor (s .pending .count) ≡ dirBlocks (s .pending .count) + 1 = tail-some (s .pending .count) (a .0) in
+          (rw pending-count (a .0), p ∙ h .tail-after (omega (arith, a .1, full)), rw pending-count (omega (arith, a .1, full)), rw count (a .2));
+      owed-before = λ e. h .owed-before (phase-owed (s .phase) (h .phase-known) e);
       committed-few = rw count (h .committed-few);
       pending-few = omega (arith, h .pending-few, pending-places s h m);
       current-few = omega (arith, h .current-few, current-places s h m);

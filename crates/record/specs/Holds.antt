@@ -2,7 +2,7 @@
 -- Assumes nothing.
 use Prim.Native.Nat.{ℕ, _+_}
 use lib.Dec.{leb, ltb, eqb}
-use mathlib.Core.Bool.{Bool, true, cond, _&&_}
+use mathlib.Core.Bool.{Bool, true, false, cond, _&&_}
 use mathlib.Core.List.{tail}
 use Rattle.card.specs.Directory.{entriesOf}
 use Rattle.card.specs.Question.{entriesFit}
@@ -40,8 +40,21 @@ tailFor e = cond (eqb e 0) 0 (dirBlocks e + 1)
 
 -- What advance has put down or copied is within its count and in its order: no directory block is down while a pending frame waits. The blocks down of
 -- directory and trailer are counted from the first on, so no trailer is down before all of them.
-unfoldable pub orderHolds : ℕ → ℕ → ℕ → ℕ → ℕ → Bool
-orderHolds migrated committed tail pending waiting = leb migrated committed && (leb tail (tailFor pending) && cond (eqb tail 0) true (eqb waiting 0))
+unfoldable pub tailHolds : ℕ → ℕ → Bool
+tailHolds tail waiting = cond (eqb tail 0) true (eqb waiting 0)
+
+-- The flush just before a header write comes after all that it is to cover: a snapshot is pending, its directory and trailer are down, and all of the committed generation is home.
+unfoldable pub flushedHolds : ℕ → ℕ → ℕ → ℕ → Bool
+flushedHolds migrated committed tail pending = cond (eqb pending 0) false (eqb tail (tailFor pending) && leb committed migrated)
+
+-- 0: writing; 1: flushed for the header write; 2: the flush after a header write or a start is owed, and comes before any directory block, trailer or migration.
+unfoldable pub phaseHolds : ℕ → ℕ → ℕ → ℕ → ℕ → Bool
+phaseHolds phase migrated committed tail pending =
+    cond (eqb phase 0) true (cond (eqb phase 1) (flushedHolds migrated committed tail pending) (eqb phase 2 && (eqb migrated 0 && eqb tail 0)))
+
+unfoldable pub orderHolds : ℕ → ℕ → ℕ → ℕ → ℕ → ℕ → Bool
+orderHolds migrated committed tail pending waiting phase =
+    leb migrated committed && (leb tail (tailFor pending) && (tailHolds tail waiting && phaseHolds phase migrated committed tail pending))
 
 -- all that wait fit memory
 unfoldable pub memoryHolds : ℕ → ℕ → ℕ → Bool
@@ -58,7 +71,7 @@ countsHold s =
 unfoldable pub spansHold : Store → Bool
 spansHold s =
     sizesHold (s .geometry .area) (committedSizeOf s) (sizeOf (s .pending)) (sizeOf (s .current))
-    && (orderHolds (s .migrated) (s .committed .count) (s .tail) (s .pending .count) (waits (s .pending)) && memoryHolds (s .frames) (s .head) (waits (s .pending) + waits (s .current)))
+    && (orderHolds (s .migrated) (s .committed .count) (s .tail) (s .pending .count) (waits (s .pending)) (s .phase) && memoryHolds (s .frames) (s .head) (waits (s .pending) + waits (s .current)))
 
 -- A directory names home blocks, none twice. Its places are taken ones, and each of its waiting frames stands in it once; every other entry has its block.
 unfoldable pub changesHold : ℕ → ℕ → Changes → Bool

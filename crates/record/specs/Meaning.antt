@@ -1,7 +1,7 @@
 -- What a record means: record and memory bytes to a state of the store.
 -- Assumes nothing.
 use Prim.Native.Nat.{ℕ, _+_, _-_}
-use lib.Dec.{ltb}
+use lib.Dec.{ltb, eqb}
 use lib.ListN.{getD, replicate}
 use mathlib.Core.Bool.{cond}
 use mathlib.Core.List.{List}
@@ -13,7 +13,7 @@ use Rattle.card.specs.Ring.{ringAt, generationSize}
 use Rattle.record.specs.declared.store.Changes.{Changes}
 use Rattle.record.specs.declared.store.Store.{Store}
 use Rattle.recovery.specs.Directory.{Note}
-use Rattle.recovery.specs.State.{Committed, Generation, State}
+use Rattle.recovery.specs.State.{Committed, Generation, State, Phase, writing, flushed, owed}
 
 -- how many frames of a generation wait
 abbrev pub waits : Changes → ℕ
@@ -57,6 +57,10 @@ pendingFirst s = ringAt (s .geometry .area) (s .first) (committedSizeOf s)
 abbrev pub currentFirst : Store → ℕ
 currentFirst s = ringAt (s .geometry .area) (s .first) (committedSizeOf s + sizeOf (s .pending))
 
+-- how flushes stand
+unfoldable pub phaseOf : ℕ → Phase
+phaseOf n = cond (eqb n 0) writing (cond (eqb n 1) flushed owed)
+
 abbrev pub stateOf : Store → List ℕ → State
 stateOf s memory = record {
   blocks = s .geometry .blocks;
@@ -69,6 +73,7 @@ stateOf s memory = record {
   pending = generationOf (pendingFirst s) (queueOf s memory 0 (waits (s .pending))) (s .pending);
   tailDown = s .tail;
   current = generationOf (currentFirst s) (queueOf s memory (waits (s .pending)) (waits (s .current))) (s .current);
+  phase = phaseOf (s .phase);
 }
 
 -- ---- the record without content
@@ -91,4 +96,5 @@ zeroStore = record {
   pending = zeroChanges;
   tail = 0;
   current = zeroChanges;
+  phase = 0;
 }

@@ -10,7 +10,7 @@ ghost use mathlib.Core.Bool.{true};
 ghost use Prim.Native.Nat.{_+_, _≤_, _<_};
 ghost use lib.Dec.{leb};
 ghost use Rattle.card.specs.Ring.{generationSize};
-ghost use Rattle.record.specs.Holds.{geometryHolds, committedHolds, pendingHolds, currentHolds, sizesHold, tailFor, orderHolds, memoryHolds, countsHold, spansHold, changesHold, holdsTogether};
+ghost use Rattle.record.specs.Holds.{geometryHolds, committedHolds, pendingHolds, currentHolds, sizesHold, tailFor, tailHolds, flushedHolds, phaseHolds, orderHolds, memoryHolds, countsHold, spansHold, changesHold, holdsTogether};
 
 fn geometry_holds(g: Geometry) -> bool
     ensures { λ r. ⌜ r ≡ geometryHolds g ⌝ }
@@ -122,15 +122,57 @@ fn tail_for(e: usize) -> usize
     (e + 63) / 64 + 1
 }
 
+fn tail_holds(tail: usize, waiting: usize) -> bool
+    ensures { λ r. ⌜ r ≡ tailHolds tail waiting ⌝ }
+{
+    if tail == 0 {
+        return true;
+    }
+    waiting == 0
+}
+
+fn flushed_holds(migrated: usize, committed: usize, tail: usize, pending: usize) -> bool
+    requires { ⌜ pending ≤ 65536 ⌝ }
+    ensures { λ r. ⌜ r ≡ flushedHolds migrated committed tail pending ⌝ }
+{
+    if pending == 0 {
+        return false;
+    }
+    if tail != tail_for(pending) {
+        return false;
+    }
+    committed <= migrated
+}
+
+fn phase_holds(phase: usize, migrated: usize, committed: usize, tail: usize, pending: usize) -> bool
+    requires { ⌜ pending ≤ 65536 ⌝ }
+    ensures { λ r. ⌜ r ≡ phaseHolds phase migrated committed tail pending ⌝ }
+{
+    if phase == 0 {
+        return true;
+    }
+    if phase == 1 {
+        return flushed_holds(migrated, committed, tail, pending);
+    }
+    if phase != 2 {
+        return false;
+    }
+    if migrated != 0 {
+        return false;
+    }
+    tail == 0
+}
+
 fn order_holds(
     migrated: usize,
     committed: usize,
     tail: usize,
     pending: usize,
     waiting: usize,
+    phase: usize,
 ) -> bool
     requires { ⌜ pending ≤ 65536 ⌝ }
-    ensures { λ r. ⌜ r ≡ orderHolds migrated committed tail pending waiting ⌝ }
+    ensures { λ r. ⌜ r ≡ orderHolds migrated committed tail pending waiting phase ⌝ }
 {
     if committed < migrated {
         return false;
@@ -138,10 +180,10 @@ fn order_holds(
     if tail_for(pending) < tail {
         return false;
     }
-    if tail == 0 {
-        return true;
+    if !tail_holds(tail, waiting) {
+        return false;
     }
-    waiting == 0
+    phase_holds(phase, migrated, committed, tail, pending)
 }
 
 fn memory_holds(frames: usize, head: usize, a: usize, b: usize) -> bool
@@ -195,7 +237,14 @@ fn spans_hold(s: Store) -> bool
     }
     let p = s.pending.taken - s.pending.down;
     let c = s.current.taken - s.current.down;
-    if !order_holds(s.migrated, s.committed.count, s.tail, s.pending.count, p) {
+    if !order_holds(
+        s.migrated,
+        s.committed.count,
+        s.tail,
+        s.pending.count,
+        p,
+        s.phase,
+    ) {
         return false;
     }
     memory_holds(s.frames, s.head, p, c)

@@ -26,7 +26,8 @@ pub struct Changes {
 
 // `frames` is the number of memory frames. Those that wait stand in them one after the other from `head` on, the pending ones first; after the last comes
 // the first. `first`, `pages` and `committed` are the committed generation's first block, its p, and its directory by rising frame. `migrated` counts
-// committed entries copied home, `tail` the pending directory's and trailer's blocks that are down.
+// committed entries copied home, `tail` the pending directory's and trailer's blocks that are down. `phase` tells how flushes stand: 0, writing; 1, flushed
+// for the header write; 2, the flush after a header write or a start is owed.
 #[repr(C)]
 pub struct Store {
     pub frames: usize,
@@ -40,6 +41,7 @@ pub struct Store {
     pub pending: Changes,
     pub tail: usize,
     pub current: Changes,
+    pub phase: usize,
 }
 
 // A generation without a change.
@@ -84,5 +86,6 @@ pub fn zeros() -> Store
         pending: pending,
         tail: 0,
         current: current,
+        phase: 0,
     }
 }

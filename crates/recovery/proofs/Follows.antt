@@ -4,7 +4,9 @@ use Prim.Native.Nat.{ℕ, _+_, _*_, _≤_, _<_}
 use borrow.Author.Tests.{ltb-true, ltb-false, eqb-true, eqb-false}
 use lib.Dec.{ltb, eqb}
 use lib.ListN.{length}
+use mathlib.Core.Bool.{true, false, false≢true}
 use mathlib.Core.List.{List, []}
+use mathlib.Core.Logic.{_⊎_, inl, inr}
 use mathlib.Core.Option.{Option, none, some}
 use mathlib.Core.Path.{_≡_, refl, sym, _∙_}
 use native.Mathlib.Nat.{add-zero}
@@ -22,12 +24,16 @@ use Rattle.recovery.specs.Book.{FrameBook}
 use Rattle.recovery.specs.Contents.{Contents}
 use Rattle.recovery.specs.Directory.{byFrame, downEntries, dirOf, waitingFrom}
 use Rattle.recovery.specs.Sound.{Ordered}
-use Rattle.recovery.specs.State.{Committed, State, places, entryCount, size, committedSize, directoryOf, waitingFrames, empty}
-use Rattle.recovery.specs.Step.{Kind, page, directory, trailer, migration, header, migrationDue, advanceDue}
+use Rattle.recovery.specs.State.{Committed, State, places, entryCount, size, committedSize, directoryOf, waitingFrames, empty, Phase, writing, flushed, owed, isOwed, isFlushed}
+use Rattle.recovery.specs.Step.{Kind, page, directory, trailer, migration, header, flush, migrationDue, advanceDue}
 
 -- a card of which no record is held: a start on it shows kept
 abbrev pub Stored : ℕ → ℕ → List Range → List ℕ → Contents → Type 0
 Stored blocks area ranges c kept = (commit : ℕ) × (g : SortedGeneration) × Recoverable blocks area ranges commit g c kept
+
+-- a snapshot is pending, and all that comes before its header write is down
+abbrev pub AllDown : State → Type 0
+AllDown s = (0 < entryCount (s .pending)) × (length (s .pending .waiting) ≡ 0) × (dirBlocks (entryCount (s .pending)) < s .tailDown) × (length (s .committed .entries) ≤ s .migrated)
 
 -- a state whose card and itself show what the book has
 pub record Follows (blocks area : ℕ) (ranges : List Range) (s : State) (c : List ℕ) (b : FrameBook) : Type 0 where
@@ -38,6 +44,8 @@ pub record Follows (blocks area : ℕ) (ranges : List Range) (s : State) (c : Li
   pub pending-ordered : Ordered (s .pending)
   pub current-ordered : Ordered (s .current)
   pub migrated-within : s .migrated ≤ length (s .committed .entries)
+  pub flushed-after : isFlushed (s .phase) ≡ true → AllDown s
+  pub owed-before : isOwed (s .phase) ≡ true → (s .migrated ≡ 0) × (s .tailDown ≡ 0)
 
 -- what a card shows that has the state's geometry
 pub stored-by : {blocks area : ℕ} {ranges : List Range} {s : State} {c : List ℕ} {b : FrameBook} → Follows blocks area ranges s c b → {commit : ℕ} {g : SortedGeneration} {c′ : List ℕ} {kept : Contents}
@@ -69,34 +77,47 @@ same-committed g = rw (add-zero (g .places), add-zero (length (g .entries)))
 
 -- ---- what the tests that choose a write tell
 
--- of the state in which a write of this kind is due
+-- of the state in which this kind is due
 abbrev pub Facts : State → Kind → Type 0
-Facts s page = 0 < length (s .pending .waiting)
-Facts s directory = (0 < entryCount (s .pending)) × (length (s .pending .waiting) ≡ 0) × (s .tailDown ≤ dirBlocks (entryCount (s .pending)))
-Facts s trailer = (0 < entryCount (s .pending)) × (length (s .pending .waiting) ≡ 0) × (s .tailDown ≤ dirBlocks (entryCount (s .pending)))
-Facts s migration = s .migrated < length (s .committed .entries)
-Facts s header = (0 < entryCount (s .pending)) × (length (s .pending .waiting) ≡ 0) × (dirBlocks (entryCount (s .pending)) < s .tailDown) × (length (s .committed .entries) ≤ s .migrated)
+Facts s page = (0 < length (s .pending .waiting)) × (isOwed (s .phase) ≡ false)
+Facts s directory = (0 < entryCount (s .pending)) × (length (s .pending .waiting) ≡ 0) × (s .tailDown ≤ dirBlocks (entryCount (s .pending))) × (isOwed (s .phase) ≡ false)
+Facts s trailer = (0 < entryCount (s .pending)) × (length (s .pending .waiting) ≡ 0) × (s .tailDown ≤ dirBlocks (entryCount (s .pending))) × (isOwed (s .phase) ≡ false)
+Facts s migration = (s .migrated < length (s .committed .entries)) × (isOwed (s .phase) ≡ false)
+Facts s header = AllDown s × (isFlushed (s .phase) ≡ true)
+Facts s flush = (isOwed (s .phase) ≡ true) ⊎ (AllDown s × (s .phase ≡ writing))
 
 -- and where none may be
 abbrev pub FactsOf : State → Option Kind → Type 0
 FactsOf s none = Unit {0}
 FactsOf s (some k) = Facts s k
 
--- they hold of the write that is due
+is-writing : (p : Phase) → isOwed p ≡ false → isFlushed p ≡ false → p ≡ writing
+is-writing writing o f = refl
+is-writing flushed o f = absurd (false≢true (sym f))
+is-writing owed o f = absurd (false≢true (sym o))
+
+pub flushed-not-owed : (p : Phase) → isFlushed p ≡ true → isOwed p ≡ false
+flushed-not-owed writing e = refl
+flushed-not-owed flushed e = refl
+flushed-not-owed owed e = absurd (false≢true e)
+
+-- they hold of the one that is due
 pub due-facts : (s : State) → FactsOf s (advanceDue s)
 unfolding advanceDue migrationDue
 due-facts s =
-    byTest (FactsOf s) (eqb (entryCount (s .pending)) 0)
-    (λ e. byTest (FactsOf s) (ltb (s .migrated) (length (s .committed .entries))) (λ m. ltb-true _ _ m) (λ m. tt))
+    byTest (FactsOf s) (isOwed (s .phase)) (λ o. inl o)
+    (λ o. byTest (FactsOf s) (eqb (entryCount (s .pending)) 0)
+    (λ e. byTest (FactsOf s) (ltb (s .migrated) (length (s .committed .entries))) (λ m. (ltb-true _ _ m, o)) (λ m. tt))
     (λ e. let any : 0 < entryCount (s .pending) = omega (arith, eqb-false (entryCount (s .pending)) 0 e) in
-    byTest (FactsOf s) (ltb 0 (length (s .pending .waiting))) (λ p. ltb-true _ _ p)
+    byTest (FactsOf s) (ltb 0 (length (s .pending .waiting))) (λ p. (ltb-true _ _ p, o))
     (λ p. let still : length (s .pending .waiting) ≡ 0 = omega (arith, ltb-false 0 (length (s .pending .waiting)) p) in
     byTest (FactsOf s) (ltb (s .tailDown) (dirBlocks (entryCount (s .pending))))
-    (λ q. (any, still, omega (arith, ltb-true (s .tailDown) (dirBlocks (entryCount (s .pending))) q)))
+    (λ q. (any, still, omega (arith, ltb-true (s .tailDown) (dirBlocks (entryCount (s .pending))) q), o))
     (λ q. byTest (FactsOf s) (eqb (s .tailDown) (dirBlocks (entryCount (s .pending))))
-    (λ r. (any, still, omega (arith, eqb-true (s .tailDown) (dirBlocks (entryCount (s .pending))) r)))
-    (λ r. byTest (FactsOf s) (ltb (s .migrated) (length (s .committed .entries))) (λ m. ltb-true _ _ m)
-    (λ m. (any, still, omega (arith, eqb-false (s .tailDown) (dirBlocks (entryCount (s .pending))) r, ltb-false (s .tailDown) (dirBlocks (entryCount (s .pending))) q), ltb-false _ _ m))))))
+    (λ r. (any, still, omega (arith, eqb-true (s .tailDown) (dirBlocks (entryCount (s .pending))) r), o))
+    (λ r. byTest (FactsOf s) (ltb (s .migrated) (length (s .committed .entries))) (λ m. (ltb-true _ _ m, o))
+    (λ m. let down : AllDown s = (any, still, omega (arith, eqb-false (s .tailDown) (dirBlocks (entryCount (s .pending))) r, ltb-false (s .tailDown) (dirBlocks (entryCount (s .pending))) q), ltb-false _ _ m) in
+    byTest (Facts s) (isFlushed (s .phase)) {x = header} {y = flush} (λ t. (down, t)) (λ t. inr (down, is-writing (s .phase) o t))))))))
 
 -- ---- sizes and counts of a state that follows
 

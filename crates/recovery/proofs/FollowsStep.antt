@@ -4,9 +4,10 @@ use Prim.Native.Nat.{ℕ, suc, _+_, _≤_, _<_}
 use borrow.Author.Tests.{ltb-true, ltb-false, eqb-true}
 use lib.Dec.{ltb, eqb}
 use lib.ListN.{length}
-use mathlib.Core.Bool.{Bool, true, false, cond}
+use mathlib.Core.Bool.{Bool, true, false, cond, not, false≢true}
 use mathlib.Core.List.{List, []}
-use mathlib.Core.Option.{some}
+use mathlib.Core.Logic.{inl, inr}
+use mathlib.Core.Option.{Option, none, some}
 use mathlib.Core.Path.{_≡_, refl, ap, sym, _∙_, subst}
 use native.Mathlib.Omega.{arith}
 use Rattle.card.proofs.QuestionLaws.{passed-both}
@@ -16,11 +17,11 @@ use Rattle.card.specs.Question.{firstNo}
 use Rattle.card.specs.Range.{Range}
 use Rattle.card.specs.Ring.{ringAt}
 use Rattle.recovery.proofs.Calls.{call-change, call-mark}
-use Rattle.recovery.proofs.Follows.{Follows, empty-ordered, sorted-empty, same-committed, Facts, FactsOf, due-facts, size-pending, size-current, count-pending, has-room, no-waiting, all-named, tail-below}
+use Rattle.recovery.proofs.Follows.{Follows, AllDown, empty-ordered, sorted-empty, same-committed, Facts, FactsOf, due-facts, size-pending, size-current, count-pending, has-room, no-waiting, all-named, tail-below}
 use Rattle.recovery.proofs.Invariant.{Invariant}
 use Rattle.recovery.proofs.OrderedLaws.{sorted-out, oldest-is, out-ordered, long-waiting, same-size, change-many, some-waiting}
 use Rattle.recovery.proofs.RoomLaws.{Room, room-told}
-use Rattle.recovery.proofs.Sorted.{SortedGeneration, countOf, sizeOf, sortedEmpty, sortedCommitted, sortedGeneration, sorted, tailBlock, trailerAt, SortedWrite, pendingOut, directoryDown, trailerDown, copyHome, headerDown, currentOut, nextHome, sortedWrite, cardAfter, sortedAfter, sortedChange, sortedSnapshot}
+use Rattle.recovery.proofs.Sorted.{SortedGeneration, countOf, sizeOf, sortedEmpty, sortedCommitted, sortedGeneration, sorted, tailBlock, trailerAt, Sorted, pendingOut, directoryDown, trailerDown, copyHome, headerDown, currentOut, nextHome, sortedWrite, sortedAfter, sortedChange, sortedSnapshot}
 use Rattle.recovery.proofs.StepHead.{step-H}
 use Rattle.recovery.proofs.StepMove.{step-M}
 use Rattle.recovery.proofs.StepOut.{step-P, step-C}
@@ -29,26 +30,49 @@ use Rattle.recovery.specs.Book.{FrameBook, bookChange, bookSnapshot, boo
 use Rattle.recovery.specs.Contents.{FrameBytes}
 use Rattle.recovery.specs.Questions.{roomAsks, snapshotAsks, pageOutAsks}
 use Rattle.recovery.specs.Sound.{Ordered}
-use Rattle.recovery.specs.State.{empty, State, entryCount, size, directoryOf}
-use Rattle.recovery.specs.Step.{pendingTo, currentTo, changeFrames, afterChange, afterSnapshot, Kind, page, directory, trailer, migration, header, outWrite, outOf, tailBytes, trailerBlockNo, nextMigration, kindWrite, afterKind, advanceDue, pageOutWrite, afterPageOut}
+use Rattle.recovery.specs.State.{empty, State, entryCount, size, directoryOf, Phase, writing, flushed, owed, isOwed, isFlushed}
+use Rattle.recovery.specs.Step.{pendingTo, currentTo, changeFrames, afterChange, afterSnapshot, Kind, page, directory, trailer, migration, header, flush, outWrite, outOf, tailBytes, trailerBlockNo, nextMigration, kindWrite, kindPut, afterFlush, afterKind, advanceDue, pageOutWrite, afterPageOut}
 use Rattle.recovery.specs.Write.{BlockWrite, putDown}
 
--- the sorted form of a write
-abbrev pub formOf : Kind → SortedWrite
-formOf page = pendingOut
-formOf directory = directoryDown
-formOf trailer = trailerDown
-formOf migration = copyHome
-formOf header = headerDown
+-- the sorted form of a kind: its write, and the state after it
+abbrev pub sortedPut : Kind → Sorted → List ℕ → Option BlockWrite
+sortedPut page s c = some (sortedWrite pendingOut s c)
+sortedPut directory s c = some (sortedWrite directoryDown s c)
+sortedPut trailer s c = some (sortedWrite trailerDown s c)
+sortedPut migration s c = some (sortedWrite copyHome s c)
+sortedPut header s c = some (sortedWrite headerDown s c)
+sortedPut flush s c = none
+
+abbrev pub sortedNext : Kind → Sorted → Sorted
+sortedNext page s = sortedAfter pendingOut s
+sortedNext directory s = sortedAfter directoryDown s
+sortedNext trailer s = sortedAfter trailerDown s
+sortedNext migration s = sortedAfter copyHome s
+sortedNext header s = sortedAfter headerDown s
+sortedNext flush s = s
 
 -- it writes the same bytes to the same block
-pub same-write : (s : State) (c : List ℕ) (k : Kind) → kindWrite k s c ≡ sortedWrite (formOf k) (sorted s) c
-unfolding kindWrite sortedWrite tailBytes tailBlock nextMigration nextHome trailerBlockNo trailerAt
-same-write s c page = λ i. record { block = ringAt (s .area) (s .pending .first) (s .pending .pagesDown); bytes = oldest-is (s .area) (s .pending) i }
-same-write s c directory = refl
-same-write s c trailer = refl
-same-write s c migration = refl
-same-write s c header = refl
+pub same-page : (s : State) (c : List ℕ) → kindWrite page s c ≡ sortedWrite pendingOut (sorted s) c
+unfolding kindWrite sortedWrite
+same-page s c = λ i. record { block = ringAt (s .area) (s .pending .first) (s .pending .pagesDown); bytes = oldest-is (s .area) (s .pending) i }
+
+pub same-put : (s : State) (c : List ℕ) (k : Kind) → kindPut k (kindWrite k s c) ≡ sortedPut k (sorted s) c
+unfolding kindWrite kindPut sortedWrite tailBytes tailBlock nextMigration nextHome trailerBlockNo trailerAt
+same-put s c page = ap some (same-page s c)
+same-put s c directory = refl
+same-put s c trailer = refl
+same-put s c migration = refl
+same-put s c header = refl
+same-put s c flush = refl
+
+-- a kind that comes before the flush of a header write
+abbrev Early : Kind → Type 0
+Early page = Unit {0}
+Early directory = Unit {0}
+Early trailer = Unit {0}
+Early migration = Unit {0}
+Early header = ⊥
+Early flush = ⊥
 
 module _ (blocks area : ℕ) (ranges : List Range) (s : State) (c : List ℕ) (b : FrameBook) (f : Follows blocks area ranges s c b) where
   -- ---- a change
@@ -95,6 +119,8 @@ module _ (blocks area : ℕ) (ranges : List Range) (s : State) (c : List ℕ) (b
       pending-ordered = f .pending-ordered;
       current-ordered = o;
       migrated-within = f .migrated-within;
+      flushed-after = f .flushed-after;
+      owed-before = f .owed-before;
     }
 
   -- ---- a snapshot
@@ -133,11 +159,13 @@ module _ (blocks area : ℕ) (ranges : List Range) (s : State) (c : List ℕ) (b
         pending-ordered = unfold afterSnapshot in (f .current-ordered);
         current-ordered = unfold afterSnapshot in (empty-ordered _);
         migrated-within = unfold afterSnapshot in (f .migrated-within);
+        flushed-after = unfold afterSnapshot in (λ p. absurd (omega (arith, f .flushed-after p .0, eqb-true (entryCount (s .pending)) 0 (q .0))));
+        owed-before = unfold afterSnapshot in (λ p. (f .owed-before p .0, refl));
       }
 
   -- ---- advance
 
-  same-after : (k : Kind) → Facts s k → sortedAfter (formOf k) (sorted s) ≡ sorted (afterKind k s)
+  same-after : (k : Kind) → Facts s k → sortedNext k (sorted s) ≡ sorted (afterKind k s)
   unfolding sortedAfter afterKind
   same-after page h = λ i. record {
     area = s .area;
@@ -146,7 +174,7 @@ module _ (blocks area : ℕ) (ranges : List Range) (s : State) (c : List ℕ) (b
     commit = s .commit;
     committed = sortedCommitted (s .committed);
     migrated = s .migrated;
-    pending = sym (sorted-out (s .area) (s .pending) (f .pending-ordered) h) i;
+    pending = sym (sorted-out (s .area) (s .pending) (f .pending-ordered) (h .0)) i;
     tailDown = s .tailDown;
     current = sortedGeneration (s .area) (s .current);
   }
@@ -158,40 +186,78 @@ module _ (blocks area : ℕ) (ranges : List Range) (s : State) (c : List ℕ) (b
     ranges = s .ranges;
     memoryFrames = s .memoryFrames;
     commit = suc (s .commit);
-    committed = record { first = s .pending .first; pagesDown = s .pending .pagesDown; dir = directoryOf (s .area) (s .pending); waiting = no-waiting f (h .1) i };
+    committed = record { first = s .pending .first; pagesDown = s .pending .pagesDown; dir = directoryOf (s .area) (s .pending); waiting = no-waiting f (h .0 .1) i };
     migrated = 0;
     pending = sortedEmpty (s .current .first);
     tailDown = 0;
     current = sortedGeneration (s .area) (s .current);
   })
+  same-after flush h = refl
 
-  after-invariant : (k : Kind) → Facts s k → Invariant blocks (sortedAfter (formOf k) (sorted s)) (cardAfter (formOf k) (sorted s) c) (bookWrote k b)
-  after-invariant page h = step-P blocks (sorted s) c b (f .invariant) (some-waiting (s .pending) h)
+  after-invariant : (k : Kind) → Facts s k → Invariant blocks (sortedNext k (sorted s)) (putDown (sortedPut k (sorted s) c) c) (bookWrote k b)
+  after-invariant page h = step-P blocks (sorted s) c b (f .invariant) (some-waiting (s .pending) (h .0))
   after-invariant directory h = step-D blocks (sorted s) c b (f .invariant) (no-waiting f (h .1)) (tail-below f (h .1) (h .0) (h .2))
   after-invariant trailer h = step-T blocks (sorted s) c b (f .invariant) (no-waiting f (h .1)) (tail-below f (h .1) (h .0) (h .2))
-  after-invariant migration h = step-M blocks (sorted s) c b (f .invariant) h
-  after-invariant header h = step-H blocks (sorted s) c b (f .invariant) (omega (arith, count-pending f, h .0)) (no-waiting f (h .1)) (omega (arith, all-named f (h .1), h .2)) (h .3)
+  after-invariant migration h = step-M blocks (sorted s) c b (f .invariant) (h .0)
+  after-invariant header h = step-H blocks (sorted s) c b (f .invariant) (omega (arith, count-pending f, h .0 .0)) (no-waiting f (h .0 .1)) (omega (arith, all-named f (h .0 .1), h .0 .2)) (h .0 .3)
+  after-invariant flush h = f .invariant
 
   after-places : (k : Kind) → Facts s k → (afterKind k s .blocks ≡ blocks) × (afterKind k s .area ≡ area) × (afterKind k s .ranges ≡ ranges) × Ordered (afterKind k s .pending) × Ordered (afterKind k s .current) × (afterKind k s .migrated ≤ length (afterKind k s .committed .entries))
   unfolding afterKind
-  after-places page h = (f .blocks-is, f .area-is, f .ranges-is, out-ordered (s .pending) (f .pending-ordered) h, f .current-ordered, f .migrated-within)
+  after-places page h = (f .blocks-is, f .area-is, f .ranges-is, out-ordered (s .pending) (f .pending-ordered) (h .0), f .current-ordered, f .migrated-within)
   after-places directory h = (f .blocks-is, f .area-is, f .ranges-is, f .pending-ordered, f .current-ordered, f .migrated-within)
   after-places trailer h = (f .blocks-is, f .area-is, f .ranges-is, f .pending-ordered, f .current-ordered, f .migrated-within)
-  after-places migration h = (f .blocks-is, f .area-is, f .ranges-is, f .pending-ordered, f .current-ordered, h)
+  after-places migration h = (f .blocks-is, f .area-is, f .ranges-is, f .pending-ordered, f .current-ordered, h .0)
   after-places header h = (f .blocks-is, f .area-is, f .ranges-is, empty-ordered (s .current .first), f .current-ordered, omega arith)
+  after-places flush h = (f .blocks-is, f .area-is, f .ranges-is, f .pending-ordered, f .current-ordered, f .migrated-within)
 
-  pub follows-advance : (k : Kind) → advanceDue s ≡ some k → Follows blocks area ranges (afterKind k s) (putDown (some (kindWrite k s c)) c) (bookWrote k b)
+  -- the flush before the header write comes after all else
+  not-flushed : (k : Kind) → Facts s k → isFlushed (s .phase) ≡ true → Early k → ⊥
+  not-flushed page h p e = omega (arith, h .0, f .flushed-after p .1)
+  not-flushed directory h p e = omega (arith, h .2, f .flushed-after p .2)
+  not-flushed trailer h p e = omega (arith, h .2, f .flushed-after p .2)
+  not-flushed migration h p e = omega (arith, h .0, f .flushed-after p .3)
+  not-flushed header h p e = e
+  not-flushed flush h p e = e
+
+  after-flush : (p : Phase) → s .phase ≡ p → Facts s flush → (isFlushed (afterFlush p) ≡ true → AllDown s) × (isOwed (afterFlush p) ≡ true → ⊥)
+  after-flush writing e (inl o) = absurd (false≢true (ap isOwed (sym e) ∙ o))
+  after-flush writing e (inr d) = ((λ t. d .0), λ t. false≢true t)
+  after-flush flushed e (inl o) = absurd (false≢true (ap isOwed (sym e) ∙ o))
+  after-flush flushed e (inr d) = ((λ t. d .0), λ t. false≢true t)
+  after-flush owed e (inl o) = ((λ t. absurd (false≢true t)), λ t. false≢true t)
+  after-flush owed e (inr d) = ((λ t. d .0), λ t. false≢true t)
+
+  abbrev Phased : State → Type 0
+  Phased t = (isFlushed (t .phase) ≡ true → AllDown t) × (isOwed (t .phase) ≡ true → (t .migrated ≡ 0) × (t .tailDown ≡ 0))
+
+  unowed : isOwed (s .phase) ≡ false → isOwed (s .phase) ≡ true → ⊥
+  unowed a b = false≢true (sym a ∙ b)
+
+  after-phase : (k : Kind) → Facts s k → Phased (afterKind k s)
+  unfolding afterKind
+  after-phase page h = ((λ p. absurd (not-flushed page h p tt)), λ o. absurd (unowed (h .1) o))
+  after-phase directory h = ((λ p. absurd (not-flushed directory h p tt)), λ o. absurd (unowed (h .3) o))
+  after-phase trailer h = ((λ p. absurd (not-flushed trailer h p tt)), λ o. absurd (unowed (h .3) o))
+  after-phase migration h = ((λ p. absurd (not-flushed migration h p tt)), λ o. absurd (unowed (h .1) o))
+  after-phase header h = ((λ p. absurd (false≢true p)), λ o. (refl, refl))
+  after-phase flush h = let t = after-flush (s .phase) refl h in (t .0, λ o. absurd (t .1 o))
+
+  pub follows-advance : (k : Kind) → advanceDue s ≡ some k → Follows blocks area ranges (afterKind k s) (putDown (kindPut k (kindWrite k s c)) c) (bookWrote k b)
   follows-advance k e =
       let h : Facts s k = subst (FactsOf s) e (due-facts s) in
       let p = after-places k h in
+      let q = after-phase k h in
       record {
         blocks-is = p .0;
         area-is = p .1;
         ranges-is = p .2;
-        invariant = rw (← (same-after k h), same-write s c k) (after-invariant k h);
+        invariant = rw (← (same-after k h), same-put s c k) (after-invariant k h);
         pending-ordered = p .3;
         current-ordered = p .4;
         migrated-within = p .5;
+        flushed-after = q .0;
+        owed-before = q .1;
       }
 
   -- ---- page-out
@@ -210,19 +276,30 @@ module _ (blocks area : ℕ) (ranges : List Range) (s : State) (c : List ℕ) (b
     current = sym (sorted-out (s .area) (s .current) (f .current-ordered) h) i;
   }
 
-  current-write : outWrite (s .area) (s .current) ≡ sortedWrite currentOut (sorted s) c
+  pub current-write : outWrite (s .area) (s .current) ≡ sortedWrite currentOut (sorted s) c
   unfolding sortedWrite
   current-write = λ i. record { block = ringAt (s .area) (s .current .first) (s .current .pagesDown); bytes = oldest-is (s .area) (s .current) i }
 
   page-invariant : (h : 0 < length (s .pending .waiting)) → Invariant blocks (sorted (pendingTo (outOf (s .pending)) (s .tailDown) s)) (putDown (some (outWrite (s .area) (s .pending))) c) b
-  unfolding kindWrite afterKind
-  page-invariant h = rw (← (same-after page h)) (subst (λ (w : BlockWrite). Invariant blocks (sortedAfter pendingOut (sorted s)) (putBlock c (w .block) (w .bytes)) b) (sym (same-write s c page)) (after-invariant page h))
+  unfolding sortedAfter kindWrite
+  page-invariant h = rw (sorted-out (s .area) (s .pending) (f .pending-ordered) h)
+      (subst (λ (w : BlockWrite). Invariant blocks (sortedAfter pendingOut (sorted s)) (putBlock c (w .block) (w .bytes)) b) (sym (same-page s c)) (step-P blocks (sorted s) c b (f .invariant) (some-waiting (s .pending) h)))
 
   module _ (ok : firstNo (pageOutAsks s) ≡ 0) where
-    -- question 19
-    pub some-waits : 0 < length (s .pending .waiting) + length (s .current .waiting)
+    asked-out : (not (isOwed (s .phase)) ≡ true) × (0 < length (s .pending .waiting) + length (s .current .waiting))
     unfolding pageOutAsks
-    some-waits = ltb-true _ _ (passed-both 18 (ltb 0 (length (s .pending .waiting) + length (s .current .waiting))) [] ok .0)
+    asked-out = let q = passed-both 27 (not (isOwed (s .phase))) _ ok in (q .0, ltb-true _ _ (passed-both 18 (ltb 0 (length (s .pending .waiting) + length (s .current .waiting))) [] (q .1) .0))
+
+    -- questions 28 and 19
+    pub none-owed : isOwed (s .phase) ≡ false
+    none-owed = go (isOwed (s .phase)) (asked-out .0)
+      where
+        go : (t : Bool) → not t ≡ true → t ≡ false
+        go true e = absurd (false≢true e)
+        go false e = refl
+
+    pub some-waits : 0 < length (s .pending .waiting) + length (s .current .waiting)
+    some-waits = asked-out .1
 
     pub follows-out : Follows blocks area ranges (afterPageOut s) (putDown (some (pageOutWrite s)) c) b
     unfolding afterPageOut pageOutWrite
@@ -241,6 +318,8 @@ module _ (blocks area : ℕ) (ranges : List Range) (s : State) (c : List ℕ) (b
               pending-ordered = out-ordered (s .pending) (f .pending-ordered) h;
               current-ordered = f .current-ordered;
               migrated-within = f .migrated-within;
+              flushed-after = λ p. absurd (omega (arith, h, f .flushed-after p .1));
+              owed-before = f .owed-before;
             }
         go false e =
             let h : 0 < length (s .current .waiting) = omega (arith, some-waits, ltb-false 0 (length (s .pending .waiting)) e) in
@@ -252,4 +331,6 @@ module _ (blocks area : ℕ) (ranges : List Range) (s : State) (c : List ℕ) (b
               pending-ordered = f .pending-ordered;
               current-ordered = out-ordered (s .current) (f .current-ordered) h;
               migrated-within = f .migrated-within;
+              flushed-after = f .flushed-after;
+              owed-before = f .owed-before;
             }

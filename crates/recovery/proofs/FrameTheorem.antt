@@ -1,20 +1,17 @@
--- What the frame layer promises the layer above: a start accepts every card that is stored, shows what is kept and follows the book, every cut leaves such a card, and a state that follows is sound.
+-- A start accepts every card that is stored, shows what is kept and follows the book; what each write puts down; and a state that follows is sound.
 -- Assumes nothing.
-use Prim.Native.Nat.{ℕ, _+_, _*_, _/_, _≤_, _<_}
-use borrow.Author.Tests.{ltb-true, ltb-false}
-use lib.Dec.{ltb}
+use Prim.Native.Nat.{ℕ, _*_, _/_, _≤_, _<_}
 use lib.ListN.{length}
-use mathlib.Core.Bool.{Bool, true, false, cond}
+use mathlib.Core.Bool.{true, false≢true}
 use mathlib.Core.List.{List}
-use mathlib.Core.Logic.{_⊎_, inl, inr}
 use mathlib.Core.Option.{some}
 use mathlib.Core.Path.{_≡_, refl, ap, sym, _∙_, subst}
 use native.Mathlib.Omega.{arith}
 use Rattle.card.proofs.AllLaws.{all-map}
-use Rattle.card.proofs.BlockLaws.{block-length, put-same, put-old}
+use Rattle.card.proofs.BlockLaws.{block-length}
 use Rattle.card.proofs.HeaderLaws.{HeaderBack, header-back}
 use Rattle.card.proofs.RangeLaws.{geometry-tells, geometry-numbers}
-use Rattle.card.specs.Block.{blockAt, putBlock, whole}
+use Rattle.card.specs.Block.{blockAt, whole}
 use Rattle.card.specs.Header.{headerBlock, headerOn}
 use Rattle.card.specs.Question.{firstNo, headerRanges}
 use Rattle.card.specs.Range.{Range, geometryFits}
@@ -22,27 +19,21 @@ use Rattle.card.specs.Ring.{ringAt}
 use Rattle.recovery.proofs.Accept.{start-accepts, accepted-card}
 use Rattle.recovery.proofs.Calls.{start-ok, read-present, format-ok}
 use Rattle.recovery.proofs.ContentsLaws.{overlay-first, overlay-whole, stored-whole}
-use Rattle.recovery.proofs.Follows.{Stored, Follows, stored-by, follows-stored, empty-ordered, sorted-empty, same-committed, Facts, FactsOf, due-facts, size-pending, size-current, count-pending, no-waiting, all-named, tail-below}
-use Rattle.recovery.proofs.FollowsStep.{same-write, some-waits}
+use Rattle.recovery.proofs.Follows.{Stored, Follows, empty-ordered, sorted-empty, same-committed, Facts, FactsOf, due-facts, size-pending, size-current, count-pending}
 use Rattle.recovery.proofs.GenerationLaws.{out-held}
-use Rattle.recovery.proofs.Harmless.{Harmless, harmless-low, harmless-write}
 use Rattle.recovery.proofs.Invariant.{GenerationFits}
 use Rattle.recovery.proofs.OrderedLaws.{oldest-is, long-waiting, same-count, some-waiting}
 use Rattle.recovery.proofs.SizeLaws.{idle-size}
-use Rattle.recovery.proofs.Sorted.{SortedGeneration, countOf, sizeOf, sortedEmpty, sortedCommitted, sortedGeneration, sorted, oldest, sortedCommittedOn, sortedStart, recovered, sortedRead, nextHome, sortedWrite}
-use Rattle.recovery.proofs.StepHead.{recoverable-H}
-use Rattle.recovery.proofs.StepMove.{copies-kept, harmless-M}
-use Rattle.recovery.proofs.StepOut.{harmless-P, harmless-C}
-use Rattle.recovery.proofs.StepTail.{harmless-D, harmless-T}
+use Rattle.recovery.proofs.Sorted.{SortedGeneration, countOf, sizeOf, sortedEmpty, sortedGeneration, sorted, oldest, sortedCommittedOn, sortedStart, recovered, sortedRead, nextHome}
+use Rattle.recovery.proofs.StepMove.{copies-kept}
 use Rattle.recovery.proofs.WaitLaws.{oldest-frame}
 use Rattle.recovery.specs.Book.{FrameBook, markedOr, bookStart}
 use Rattle.recovery.specs.Contents.{Contents, overlay, storedFrames}
 use Rattle.recovery.specs.Directory.{byFrame, downEntries, dirOf, frameOf, waitingFrom}
-use Rattle.recovery.specs.Questions.{startAsks, pageOutAsks}
+use Rattle.recovery.specs.Questions.{startAsks}
 use Rattle.recovery.specs.Sound.{Ordered, Sound}
 use Rattle.recovery.specs.State.{Generation, State, places, entryCount, committedSize, directoryOf, waitingFrames, empty, readFrame}
-use Rattle.recovery.specs.Step.{Kind, page, directory, trailer, migration, header, oldestBytes, outWrite, nextMigration, kindWrite, advanceDue, pageOutWrite, startCommitted, startState}
-use Rattle.recovery.specs.Write.{BlockWrite, putDown, Left, Reached}
+use Rattle.recovery.specs.Step.{page, migration, header, oldestBytes, nextMigration, advanceDue, startCommitted, startState}
 
 -- ---- a card that a start accepts, and one that a format has left
 
@@ -97,6 +88,8 @@ module _ (blocks area : ℕ) (ranges : List Range) where
     pending-ordered = unfold startState in (empty-ordered _);
     current-ordered = unfold startState in (empty-ordered _);
     migrated-within = unfold startState in (omega arith);
+    flushed-after = unfold startState in (λ p. absurd (false≢true p));
+    owed-before = unfold startState in (λ p. (refl, refl));
   }
 
   -- ---- read
@@ -128,80 +121,10 @@ module _ (blocks area : ℕ) (ranges : List Range) where
     home-bytes h = copies-kept blocks (sorted s) c b (f .invariant) h
 
     pub due-page : advanceDue s ≡ some page → 0 < length (s .pending .waiting)
-    due-page e = subst (FactsOf s) e (due-facts s)
+    due-page e = let h : Facts s page = subst (FactsOf s) e (due-facts s) in h .0
 
     pub due-migration : advanceDue s ≡ some migration → s .migrated < length (s .committed .entries)
-    due-migration e = subst (FactsOf s) e (due-facts s)
-
-    -- ---- cuts
-
-    -- the block of a harmless write may hold anything
-    torn : (w : BlockWrite) (c′ : List ℕ) → Harmless blocks (s .area) (sortedCommitted (s .committed)) (w .block) → Left (some w) c c′
-        → Stored blocks area ranges c′ (b .kept) × (Reached w c′ → ⊥)
-    torn w c′ safe l =
-        let left = harmless-write blocks (s .area) (s .ranges) (s .commit) (sortedCommitted (s .committed)) c (b .kept) (f .invariant .recoverable) (w .block) safe (l .0) (l .1) in (
-          rw (l .2) (stored-by f left),
-          λ r. omega (arith, r .0, harmless-low blocks (s .area) (sortedCommitted (s .committed)) (w .block) (f .invariant .recoverable .home) safe),
-        )
-
-    -- a cut in a page-out keeps what is kept
-    pub cut-out : firstNo (pageOutAsks s) ≡ 0 → (c′ : List ℕ) → Left (some (pageOutWrite s)) c c′ → Stored blocks area ranges c′ (b .kept) × (Reached (pageOutWrite s) c′ → ⊥)
-    unfolding pageOutWrite
-    cut-out ok c′ = go (ltb 0 (length (s .pending .waiting))) refl
-      where
-        go : (t : Bool) → ltb 0 (length (s .pending .waiting)) ≡ t → Left (some (cond t (outWrite (s .area) (s .pending)) (outWrite (s .area) (s .current)))) c c′
-            → Stored blocks area ranges c′ (b .kept) × (Reached (cond t (outWrite (s .area) (s .pending)) (outWrite (s .area) (s .current))) c′ → ⊥)
-        go true e l = unfold sortedWrite in (torn (outWrite (s .area) (s .pending)) c′ (harmless-P blocks (sorted s) c b (f .invariant) (some-waiting (s .pending) (ltb-true _ _ e))) l)
-        go false e l = unfold sortedWrite in (torn (outWrite (s .area) (s .current)) c′ (harmless-C blocks (sorted s) c b (f .invariant) (some-waiting (s .current) (omega (arith, some-waits blocks area ranges s c b f ok, ltb-false 0 (length (s .pending .waiting)) e)))) l)
-
-    header-card : Facts s header → Stored blocks area ranges (putDown (some (kindWrite header s c)) c) (markedOr b)
-    header-card h =
-        rw (same-write s c header)
-        (stored-by f (recoverable-H blocks (sorted s) c b (f .invariant) (omega (arith, count-pending f, h .0)) (no-waiting f (h .1)) (omega (arith, all-named f (h .1), h .2)) (h .3)))
-
-    fits : 512 * 0 + 512 ≤ length c
-    fits = omega (arith, f .invariant .recoverable .whole, f .invariant .recoverable .many)
-
-    header-at : kindWrite header s c .block ≡ 0
-    unfolding kindWrite
-    header-at = refl
-
-    -- a cut in a header write leaves the old card or the new one, and block 0 tells which
-    cut-header : Facts s header → (c′ : List ℕ) → Left (some (kindWrite header s c)) c c′
-        → (Reached (kindWrite header s c) c′ → Stored blocks area ranges c′ (markedOr b)) × ((Reached (kindWrite header s c) c′ → ⊥) → Stored blocks area ranges c′ (b .kept))
-    cut-header h c′ l =
-        let at : c′ ≡ putBlock c 0 (l .0) = rw header-at at (l .2) in
-        let there : blockAt c′ 0 ≡ l .0 = rw at (put-same c 0 (l .0) (l .1) fits) in (
-          (λ r. let x-is : l .0 ≡ kindWrite header s c .bytes = sym there ∙ r .1 in
-              let c-is : c′ ≡ putDown (some (kindWrite header s c)) c = l .2 ∙ ap (putBlock c (kindWrite header s c .block)) x-is in
-              rw c-is (header-card h)),
-          (λ n. go there at (l .3 header-at) n),
-        )
-      where
-        go : {x : List ℕ} → blockAt c′ 0 ≡ x → c′ ≡ putBlock c 0 x → (x ≡ blockAt c 0) ⊎ (x ≡ kindWrite header s c .bytes) → (Reached (kindWrite header s c) c′ → ⊥) → Stored blocks area ranges c′ (b .kept)
-        go there at (inl e) n =
-            let same : c′ ≡ c = at ∙ ap (putBlock c 0) e ∙ put-old c 0 in
-            rw same (follows-stored blocks area ranges s c b f)
-        go there at (inr e) n = absurd (n (header-at, there ∙ e))
-
-    -- so does a cut in advance, unless a header has reached the card: then what was marked is kept
-    pub cut-advance : (k : Kind) → advanceDue s ≡ some k → (c′ : List ℕ) → Left (some (kindWrite k s c)) c c′
-        → (Reached (kindWrite k s c) c′ → Stored blocks area ranges c′ (markedOr b)) × ((Reached (kindWrite k s c) c′ → ⊥) → Stored blocks area ranges c′ (b .kept))
-    cut-advance k e c′ l =
-        let h : Facts s k = subst (FactsOf s) e (due-facts s) in
-        go k h l
-      where
-        quiet : (j : Kind) → Harmless blocks (s .area) (sortedCommitted (s .committed)) (kindWrite j s c .block) → Left (some (kindWrite j s c)) c c′
-            → (Reached (kindWrite j s c) c′ → Stored blocks area ranges c′ (markedOr b)) × ((Reached (kindWrite j s c) c′ → ⊥) → Stored blocks area ranges c′ (b .kept))
-        quiet j safe l = let t = torn (kindWrite j s c) c′ safe l in ((λ r. absurd (t .1 r)), (λ n. t .0))
-
-        go : (j : Kind) → Facts s j → Left (some (kindWrite j s c)) c c′
-            → (Reached (kindWrite j s c) c′ → Stored blocks area ranges c′ (markedOr b)) × ((Reached (kindWrite j s c) c′ → ⊥) → Stored blocks area ranges c′ (b .kept))
-        go page h = quiet page (rw (same-write s c page) (harmless-P blocks (sorted s) c b (f .invariant) (some-waiting (s .pending) h)))
-        go directory h = quiet directory (rw (same-write s c directory) (harmless-D blocks (sorted s) c b (f .invariant) (no-waiting f (h .1)) (tail-below f (h .1) (h .0) (h .2))))
-        go trailer h = quiet trailer (rw (same-write s c trailer) (harmless-T blocks (sorted s) c b (f .invariant) (no-waiting f (h .1)) (tail-below f (h .1) (h .0) (h .2))))
-        go migration h = quiet migration (rw (same-write s c migration) (harmless-M blocks (sorted s) c b (f .invariant) h))
-        go header h = cut-header h c′
+    due-migration e = let h : Facts s migration = subst (FactsOf s) e (due-facts s) in h .0
 
     -- ---- question 2's facts hold of every state that follows
 
@@ -238,6 +161,8 @@ module _ (blocks area : ℕ) (ranges : List Range) where
       migrated-within = f .migrated-within;
       tail-within = rw (size-pending f) (f .invariant .tailDown-fits);
       tail-after = λ h. sym (long-waiting (s .pending)) ∙ ap length (f .invariant .tailDown-after h);
+      flushed-after = f .flushed-after;
+      owed-before = f .owed-before;
       committed-few = f .invariant .recoverable .few;
       pending-few = few-of (s .pending) (f .pending-ordered) (f .invariant .pending-ok .few);
       current-few = few-of (s .current) (f .current-ordered) (f .invariant .current-ok .few);

@@ -1,10 +1,10 @@
--- A write outside the committed generation, or to the home of a frame that it names, leaves what a started card shows, whatever bytes it leaves.
+-- Blocks outside the committed generation, and the homes of frames that it names, may hold any bytes: what a started card shows stays.
 -- Assumes nothing.
 use Prim.Native.Nat.{ℕ, _+_, _*_, _≤_, _<_}
 use lib.ListN.{length}
 use mathlib.Core.List.{List, [], _∷_}
 use mathlib.Core.Logic.{_≢_}
-use mathlib.Core.Path.{_≡_, ap, _∙_}
+use mathlib.Core.Path.{_≡_, refl, ap, sym, _∙_, subst}
 use native.Mathlib.Decide.{ℕ-discrete}
 use native.Mathlib.Omega.{arith}
 use Rattle.card.proofs.AllLaws.{all-map}
@@ -48,47 +48,52 @@ unfolding storedFrames
 without-storedFrames c f [] h = tt
 without-storedFrames c f (e ∷ es) h = (h .0, without-storedFrames c f es (h .1))
 
+absent-or-not : (f : ℕ) (es : List Entry) → Dec (All (λ e. f ≢ e .frame) es)
+absent-or-not f [] = yes tt
+absent-or-not f (e ∷ es) = go (ℕ-discrete f (e .frame)) (absent-or-not f es)
+  where
+    go : Dec (f ≡ e .frame) → Dec (All (λ x. f ≢ x .frame) es) → Dec (All (λ x. f ≢ x .frame) (e ∷ es))
+    go (yes p) r = no (λ h. h .0 p)
+    go (no d) (yes h) = yes (d, h)
+    go (no d) (no n) = no (λ h. n (h .1))
+
+-- ---- another card that differs in such blocks alone
+
 module _ (blocks area : ℕ) (ranges : List Range) (commit : ℕ) (g : SortedGeneration) (c : List ℕ) (kept : Contents) (k : Recoverable blocks area ranges commit g c kept)
-    (n : ℕ) (harmless : Harmless blocks area g n) (x : List ℕ) (long : length x ≡ 512) where
-  fit : 512 * n + 512 ≤ length c
-  fit = omega (arith, harmless-low blocks area g n (k .home) harmless)
-
-  other : (m : ℕ) → m ≢ n → blockAt (putBlock c n x) m ≡ blockAt c m
-  other m h = put-other c n x long fit m h
-
-  head-same : blockAt (putBlock c n x) 0 ≡ blockAt c 0
-  head-same = other 0 (omega (arith, harmless-low blocks area g n (k .home) harmless))
-
+    (c′ : List ℕ) (long : length c′ ≡ length c) (head-same : blockAt c′ 0 ≡ blockAt c 0) (other : (n : ℕ) → 1 ≤ n → (Harmless blocks area g n → ⊥) → blockAt c′ n ≡ blockAt c n) where
   -- what the committed directory names stands
-  pub committed-same : storedFrames (putBlock c n x) (g .dir) ≡ storedFrames c (g .dir)
-  committed-same = storedFrames-same c (putBlock c n x) (g .dir)
-      (all-map (Between area (g .first) 0 (g .pagesDown)) (λ e. blockAt (putBlock c n x) (e .block) ≡ blockAt c (e .block)) (g .dir)
-      (λ e h. other (e .block) (harmless-entry blocks area g n (pagesDown-below g (k .any)) harmless e h)) (k .inside))
+  committed-same : storedFrames c′ (g .dir) ≡ storedFrames c (g .dir)
+  committed-same = storedFrames-same c c′ (g .dir)
+      (all-map (Between area (g .first) 0 (g .pagesDown)) (λ e. blockAt c′ (e .block) ≡ blockAt c (e .block)) (g .dir)
+      (λ e h. other (e .block) (h .0) (λ bad. harmless-entry blocks area g (e .block) (pagesDown-below g (k .any)) bad e h refl)) (k .inside))
 
-  tail-same : Tail c area commit g → Tail (putBlock c n x) area commit g
+  tail-same : Tail c area commit g → Tail c′ area commit g
   unfolding trailerAt
   tail-same t =
       let long-size : sizeOf g ≡ g .pagesDown + dirBlocks (length (g .dir)) + 1 = quiet-size g (k .quiet) (t .some-named) in
-      let block : (i : ℕ) → i < sizeOf g → blockAt (putBlock c n x) (ringAt area (g .first) i) ≡ blockAt c (ringAt area (g .first) i) =
-      λ i h. other (ringAt area (g .first) i) (harmless-apart blocks area g n (k .low) (k .high) (k .fits) harmless i h) in
-      let last : blockAt (putBlock c n x) (trailerAt area g) ≡ blockAt c (trailerAt area g) = block (g .pagesDown + dirBlocks (length (g .dir))) (omega arith) in
+      let block : (i : ℕ) → i < sizeOf g → blockAt c′ (ringAt area (g .first) i) ≡ blockAt c (ringAt area (g .first) i) =
+      λ i h. other (ringAt area (g .first) i) (on-in area (g .first) (k .low) (k .high) i (omega (arith, k .fits)) .0)
+      (λ bad. harmless-apart blocks area g (ringAt area (g .first) i) (k .low) (k .high) (k .fits) bad i h refl) in
+      let last : blockAt c′ (trailerAt area g) ≡ blockAt c (trailerAt area g) = block (g .pagesDown + dirBlocks (length (g .dir))) (omega arith) in
       record {
         some-named = t .some-named;
         place-is = rw head-same (t .place-is);
         trailer-is = rw last (t .trailer-is);
-        dir-is = readDir-same c (putBlock c n x) area (g .first) (g .pagesDown) (length (g .dir)) (λ j h. block (g .pagesDown + j) (omega arith)) ∙ t .dir-is;
+        dir-is = readDir-same c c′ area (g .first) (g .pagesDown) (length (g .dir)) (λ j h. block (g .pagesDown + j) (omega arith)) ∙ t .dir-is;
       }
 
-  same-view : (f : ℕ) → area < f → f < blocks → Dec (f ≡ n) → Harmless blocks area g n → overlay (storedFrames c (g .dir)) (blockAt (putBlock c n x)) f ≡ overlay (storedFrames c (g .dir)) (blockAt c) f
-  same-view f l h (no d) s = overlay-base (storedFrames c (g .dir)) (blockAt (putBlock c n x)) (blockAt c) f (other f d)
-  same-view f l h (yes d) (free p q r) = absurd (omega arith)
-  same-view f l h (yes d) (moving p q r) =
-      overlay-hides (storedFrames c (g .dir)) (blockAt (putBlock c n x)) (blockAt c) f (λ w. r (rw d at (without-storedFrames c f (g .dir) w)))
+  same-view : (f : ℕ) → area < f → Dec (All (λ e. f ≢ e .frame) (g .dir)) → overlay (storedFrames c (g .dir)) (blockAt c′) f ≡ overlay (storedFrames c (g .dir)) (blockAt c) f
+  same-view f l (yes none) = overlay-base (storedFrames c (g .dir)) (blockAt c′) (blockAt c) f (other f (omega arith) (no-harm none))
+    where
+      no-harm : All (λ e. f ≢ e .frame) (g .dir) → Harmless blocks area g f → ⊥
+      no-harm a (free p q r) = omega arith
+      no-harm a (moving p q r) = r a
+  same-view f l (no some) = overlay-hides (storedFrames c (g .dir)) (blockAt c′) (blockAt c) f (λ w. some (without-storedFrames c f (g .dir) w))
 
-  -- whatever bytes the block has, the card shows what it did
-  pub harmless-write : Recoverable blocks area ranges commit g (putBlock c n x) kept
-  harmless-write = record {
-    whole = put-length c n x long fit ∙ k .whole;
+  -- it shows what the first did
+  pub harmless-left : Recoverable blocks area ranges commit g c′ kept
+  harmless-left = record {
+    whole = long ∙ k .whole;
     home = k .home;
     many = k .many;
     small = k .small;
@@ -107,5 +112,14 @@ module _ (blocks area : ℕ) (ranges : List Range) (commit : ℕ) (g : SortedGen
     unset = λ e. rw head-same (k .unset e);
     fresh = k .fresh;
     there = λ h. tail-same (k .there h);
-    view = λ f l h. rw committed-same (same-view f l h (ℕ-discrete f n) harmless ∙ k .view f l h);
+    view = λ f l h. rw committed-same (same-view f l (absent-or-not f (g .dir)) ∙ k .view f l h);
   }
+
+-- one such block written, whatever bytes it has
+pub harmless-write : (blocks area : ℕ) (ranges : List Range) (commit : ℕ) (g : SortedGeneration) (c : List ℕ) (kept : Contents) → Recoverable blocks area ranges commit g c kept
+    → (n : ℕ) → Harmless blocks area g n → (x : List ℕ) → length x ≡ 512 → Recoverable blocks area ranges commit g (putBlock c n x) kept
+harmless-write blocks area ranges commit g c kept k n harmless x long =
+    let low = harmless-low blocks area g n (k .home) harmless in
+    let fit : 512 * n + 512 ≤ length c = omega (arith, low, k .whole) in
+    harmless-left blocks area ranges commit g c kept k (putBlock c n x) (put-length c n x long fit) (put-other c n x long fit 0 (omega (arith, low)))
+    (λ m h bad. put-other c n x long fit m (λ e. bad (subst (Harmless blocks area g) (sym e) harmless)))

@@ -7,6 +7,7 @@ pub mod GenerationLaws
 pub mod NoteLaws
 pub mod TailLaws
 pub mod Harmless
+pub mod DriveLaws
 pub mod Writes
 pub mod StepOut
 pub mod StepTail
@@ -21,5 +22,7 @@ pub mod SumLaws
 pub mod RoomLaws
 pub mod Follows
 pub mod FollowsStep
+pub mod Durable
 pub mod FrameTheorem
+pub mod Persists
 pub mod Trace

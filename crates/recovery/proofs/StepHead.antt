@@ -162,6 +162,10 @@ module _ (blocks : ℕ) (s : Sorted) (c : List ℕ) (b : FrameBook) (i : Invaria
   unfolding sortedWrite h d
   recoverable-H = new-recoverable
 
+  pub long-H : length (sortedWrite headerDown s c .bytes) ≡ 512
+  unfolding sortedWrite h
+  long-H = h-long
+
   current-at : s .current .first ≡ ringAt (s .area) (s .pending .first) (sizeOf (s .pending))
   current-at = i .current-first ∙ sym (pending-place blocks s c b i (sizeOf (s .pending)) (omega arith))
 

@@ -65,6 +65,10 @@ module _ (blocks : ℕ) (s : Sorted) (c : List ℕ) (b : FrameBook) (i : Invaria
   unfolding sortedWrite n
   harmless-M = harmless
 
+  pub long-M : length (sortedWrite copyHome s c .bytes) ≡ 512
+  unfolding sortedWrite x
+  long-M = long
+
   other : (m : ℕ) → m ≢ n → blockAt (putBlock c n x) m ≡ blockAt c m
   other m h = put-other c n x long fits m h
 

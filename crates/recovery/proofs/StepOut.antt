@@ -5,11 +5,11 @@ use lib.ListN.{length}
 use mathlib.Core.List.{List}
 use mathlib.Core.Path.{_≡_, refl, ap, _∙_}
 use native.Mathlib.Omega.{arith}
-use Rattle.card.proofs.RingLaws.{on-on}
+use Rattle.card.proofs.RingLaws.{on-on, from-shift}
 use Rattle.card.specs.Block.{putBlock}
-use Rattle.card.specs.Ring.{ringAt}
+use Rattle.card.specs.Ring.{ringAt, ringOffset}
 use Rattle.recovery.proofs.GenerationLaws.{out-held, out-apart, pagedOut-ok, pagedOut-first, pagedOut-length, pagedOut-pagesDown, pagedOut-view}
-use Rattle.recovery.proofs.Harmless.{Harmless}
+use Rattle.recovery.proofs.Harmless.{Harmless, free}
 use Rattle.recovery.proofs.Invariant.{Invariant}
 use Rattle.recovery.proofs.SizeLaws.{pagedOut-count, pagedOut-size, pages-below, pagesDown-below}
 use Rattle.recovery.proofs.Sorted.{placesOf, countOf, sizeOf, Sorted, oldest, pendingOut, currentOut, pagedOut, sortedWrite, cardAfter, sortedAfter}
@@ -34,6 +34,10 @@ module _ (blocks : ℕ) (s : Sorted) (c : List ℕ) (b : FrameBook) (i : Invaria
   pub harmless-P : Harmless blocks (s .area) (s .committed) (sortedWrite pendingOut s c .block)
   unfolding sortedWrite
   harmless-P = spot-harmless blocks s c b i _ (sizeOf (s .committed) + s .pending .pagesDown) at-P (omega arith) (omega (arith, i .room, fits-P))
+
+  pub long-P : length (sortedWrite pendingOut s c .bytes) ≡ 512
+  unfolding sortedWrite
+  long-P = out-held blocks (s .area) (s .committed .first) (sizeOf (s .committed)) (s .pending) (i .pending-ok) some .0 .0
 
   pub step-P : Invariant blocks (sortedAfter pendingOut s) (cardAfter pendingOut s c) b
   unfolding sortedWrite sortedAfter
@@ -85,6 +89,22 @@ module _ (blocks : ℕ) (s : Sorted) (c : List ℕ) (b : FrameBook) (i : Invaria
   pub harmless-C : Harmless blocks (s .area) (s .committed) (sortedWrite currentOut s c .block)
   unfolding sortedWrite lo
   harmless-C = spot-harmless blocks s c b i _ (lo + s .current .pagesDown) at-C (omega arith) (omega (arith, i .room, fits-C))
+
+  pub long-C : length (sortedWrite currentOut s c .bytes) ≡ 512
+  unfolding sortedWrite lo
+  long-C = out-held blocks (s .area) (s .committed .first) lo (s .current) (i .current-ok) some .0 .0
+
+  -- nor does it lie in the pending stretch
+  pub beyond-C : Harmless blocks (s .area) (s .pending) (sortedWrite currentOut s c .block)
+  unfolding sortedWrite lo
+  beyond-C =
+      let n : ℕ = ringAt (s .area) (s .current .first) (s .current .pagesDown) in
+      let q : ℕ = sizeOf (s .committed) + sizeOf (s .pending) + s .current .pagesDown in
+      let inn = spot-in blocks s c b i n q at-C (omega arith) (omega (arith, i .room, fits-C)) in
+      let at = spot-at blocks s c b i n q at-C (omega arith) (omega (arith, i .room, fits-C)) in
+      let there = from-shift (s .area) (s .committed .first) (i .recoverable .low) (i .recoverable .high) (sizeOf (s .committed)) n (inn .0) (inn .1) (omega (arith, at)) in
+      let from-pending : ringOffset (s .area) (s .pending .first) n ≡ ringOffset (s .area) (ringAt (s .area) (s .committed .first) (sizeOf (s .committed))) n = ap (λ (x : ℕ). ringOffset (s .area) x n) (i .pending-first) in
+      free (inn .0) (inn .1) (omega (arith, there, at, from-pending))
 
   pub step-C : Invariant blocks (sortedAfter currentOut s) (cardAfter currentOut s c) b
   unfolding sortedWrite sortedAfter lo

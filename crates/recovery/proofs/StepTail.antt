@@ -50,6 +50,14 @@ module _ (blocks : ℕ) (s : Sorted) (c : List ℕ) (b : FrameBook) (i : Invaria
   unfolding x
   long = tail-length (suc (s .commit)) (s .pending) (s .tailDown)
 
+  pub long-D : length (sortedWrite directoryDown s c .bytes) ≡ 512
+  unfolding sortedWrite x
+  long-D = long
+
+  pub long-T : length (sortedWrite trailerDown s c .bytes) ≡ 512
+  unfolding sortedWrite x
+  long-T = long
+
   next-tailDown : (j : ℕ) → j < suc (s .tailDown) → Dec (j < s .tailDown)
       → blockAt (putBlock c n x) (ringAt (s .area) (s .pending .first) (s .pending .pagesDown + j)) ≡ tailBlock (suc (s .commit)) (s .pending) j
   unfolding n q x

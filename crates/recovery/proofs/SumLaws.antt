@@ -16,8 +16,8 @@ use Rattle.card.specs.Ring.{dirBlocks}
 use Rattle.recovery.specs.Contents.{FrameBytes}
 use Rattle.recovery.specs.Directory.{Note, noteChange, turnOf}
 use Rattle.recovery.specs.Questions.{newPlaces, roomAsks, given, advanceAsks}
-use Rattle.recovery.specs.State.{Generation, State, places, entryCount, size, committedSize}
-use Rattle.recovery.specs.Step.{queued, changeFrame, changeFrames, afterChange, Kind, page, directory, trailer, migration, header, migrationDue, advanceDue}
+use Rattle.recovery.specs.State.{Generation, State, places, entryCount, size, committedSize, isOwed, isFlushed}
+use Rattle.recovery.specs.Step.{queued, changeFrame, changeFrames, afterChange, Kind, page, directory, trailer, migration, header, flush, migrationDue, advanceDue}
 use Rattle.recovery.specs.Sums.{isSome, waitsIn, notedIn, placesNeeded, entriesNeeded, remainingWrites, firstOf, roomSums, advanceSums}
 
 -- no frame twice
@@ -160,52 +160,56 @@ tail-test a b x y z = go (ltb a b) refl
     go false e = ap (λ (t : Bool). cond t y z) (same (ltb-false a b e) (eqb a b) refl)
 
 module _ (s : State) where
-  -- the first write that remains, by document 01's order: P, D, T, M, H with a snapshot pending, else only M
-  abbrev firstRemaining : Option Kind
-  firstRemaining = cond (eqb (entryCount (s .pending)) 0) (cond (ltb (s .migrated) (length (s .committed .entries))) (some migration) none)
-      (cond (ltb 0 (length (s .pending .waiting))) (some page)
-      (cond (ltb (s .tailDown) (dirBlocks (entryCount (s .pending)))) (some directory)
-      (cond (eqb (s .tailDown) (dirBlocks (entryCount (s .pending)))) (some trailer)
-      (cond (ltb (s .migrated) (length (s .committed .entries))) (some migration) (some header)))))
+  -- the first that remains, by document 01's order: P, D, T, M, F, H with a snapshot pending, else only M
+  moves : List Kind
+  moves = replicate (length (s .committed .entries) - s .migrated) migration
 
-  remaining-first : firstOf (remainingWrites s) ≡ firstRemaining
-  unfolding remainingWrites
-  remaining-first = go (eqb (entryCount (s .pending)) 0)
+  ends : List Kind
+  ends = cond (isFlushed (s .phase)) [] (flush ∷ []) ++ (header ∷ flush ∷ [])
+
+  first-end : firstOf ends ≡ some (cond (isFlushed (s .phase)) header flush)
+  unfolding ends
+  first-end = go (isFlushed (s .phase))
     where
-      moves : List Kind
-      moves = replicate (length (s .committed .entries) - s .migrated) migration
+      go : (t : Bool) → firstOf (cond t [] (flush ∷ []) ++ (header ∷ flush ∷ [])) ≡ some (cond t header flush)
+      go true = unfold firstOf in refl
+      go false = unfold firstOf in refl
 
-      last : firstOf (moves ++ (header ∷ [])) ≡ cond (ltb (s .migrated) (length (s .committed .entries))) (some migration) (some header)
-      last = repeated (length (s .committed .entries) - s .migrated) migration (header ∷ [])
-          ∙ (unfold firstOf in (ap (λ (t : Bool). cond t (some migration) (some header)) (same-test (s .migrated) (length (s .committed .entries)))))
+  last : firstOf (moves ++ ends) ≡ migrationDue s (some (cond (isFlushed (s .phase)) header flush))
+  unfolding moves migrationDue
+  last = repeated (length (s .committed .entries) - s .migrated) migration ends
+      ∙ (rw (first-end, same-test (s .migrated) (length (s .committed .entries))))
 
-      writes : List Kind
-      writes = replicate (length (s .pending .waiting)) page
-          ++ (replicate (dirBlocks (entryCount (s .pending)) - s .tailDown) directory ++ (replicate (1 - (s .tailDown - dirBlocks (entryCount (s .pending)))) trailer ++ (moves ++ (header ∷ []))))
+  writes : List Kind
+  writes = replicate (length (s .pending .waiting)) page
+      ++ (replicate (dirBlocks (entryCount (s .pending)) - s .tailDown) directory ++ (replicate (1 - (s .tailDown - dirBlocks (entryCount (s .pending)))) trailer ++ (moves ++ ends)))
 
-      rest : firstOf writes ≡ cond (ltb 0 (length (s .pending .waiting))) (some page) (cond (ltb (s .tailDown) (dirBlocks (entryCount (s .pending)))) (some directory)
-          (cond (eqb (s .tailDown) (dirBlocks (entryCount (s .pending)))) (some trailer) (cond (ltb (s .migrated) (length (s .committed .entries))) (some migration) (some header))))
-      rest =
-          repeated (length (s .pending .waiting)) page _
-          ∙ ap (cond (ltb 0 (length (s .pending .waiting))) (some page))
-          (repeated (dirBlocks (entryCount (s .pending)) - s .tailDown) directory _
-          ∙ (rw (same-test (s .tailDown) (dirBlocks (entryCount (s .pending))))
-          (ap (cond (ltb (s .tailDown) (dirBlocks (entryCount (s .pending)))) (some directory))
-          (repeated (1 - (s .tailDown - dirBlocks (entryCount (s .pending)))) trailer _ ∙ ap (cond (ltb 0 (1 - (s .tailDown - dirBlocks (entryCount (s .pending))))) (some trailer)) last)
-          ∙ tail-test (s .tailDown) (dirBlocks (entryCount (s .pending))) (some directory) (some trailer) _)))
+  rest : firstOf writes ≡ cond (ltb 0 (length (s .pending .waiting))) (some page) (cond (ltb (s .tailDown) (dirBlocks (entryCount (s .pending)))) (some directory)
+      (cond (eqb (s .tailDown) (dirBlocks (entryCount (s .pending)))) (some trailer) (migrationDue s (some (cond (isFlushed (s .phase)) header flush)))))
+  unfolding writes
+  rest =
+      repeated (length (s .pending .waiting)) page _
+      ∙ ap (cond (ltb 0 (length (s .pending .waiting))) (some page))
+      (repeated (dirBlocks (entryCount (s .pending)) - s .tailDown) directory _
+      ∙ (rw (same-test (s .tailDown) (dirBlocks (entryCount (s .pending))))
+      (ap (cond (ltb (s .tailDown) (dirBlocks (entryCount (s .pending)))) (some directory))
+      (repeated (1 - (s .tailDown - dirBlocks (entryCount (s .pending)))) trailer _ ∙ ap (cond (ltb 0 (1 - (s .tailDown - dirBlocks (entryCount (s .pending))))) (some trailer)) last)
+      ∙ tail-test (s .tailDown) (dirBlocks (entryCount (s .pending))) (some directory) (some trailer) _)))
 
-      go : (t : Bool) → firstOf (cond t moves writes) ≡ cond t (cond (ltb (s .migrated) (length (s .committed .entries))) (some migration) none)
-          (cond (ltb 0 (length (s .pending .waiting))) (some page) (cond (ltb (s .tailDown) (dirBlocks (entryCount (s .pending)))) (some directory)
-          (cond (eqb (s .tailDown) (dirBlocks (entryCount (s .pending)))) (some trailer) (cond (ltb (s .migrated) (length (s .committed .entries))) (some migration) (some header)))))
-      go true = repeated-only (length (s .committed .entries) - s .migrated) migration ∙ ap (λ (t : Bool). cond t (some migration) none) (same-test (s .migrated) (length (s .committed .entries)))
-      go false = rest
-
-  due-first : firstRemaining ≡ advanceDue s
-  unfolding advanceDue migrationDue
-  due-first = refl
+  idle : firstOf moves ≡ migrationDue s none
+  unfolding moves migrationDue
+  idle = repeated-only (length (s .committed .entries) - s .migrated) migration ∙ ap (λ (t : Bool). cond t (some migration) none) (same-test (s .migrated) (length (s .committed .entries)))
 
   pub same-due : firstOf (remainingWrites s) ≡ advanceDue s
-  same-due = remaining-first ∙ due-first
+  unfolding remainingWrites advanceDue moves ends writes
+  same-due = go (isOwed (s .phase)) (eqb (entryCount (s .pending)) 0)
+    where
+      go : (o t : Bool) → firstOf (cond o (flush ∷ []) [] ++ cond t moves writes)
+          ≡ cond o (some flush) (cond t (migrationDue s none) (cond (ltb 0 (length (s .pending .waiting))) (some page) (cond (ltb (s .tailDown) (dirBlocks (entryCount (s .pending)))) (some directory)
+          (cond (eqb (s .tailDown) (dirBlocks (entryCount (s .pending)))) (some trailer) (migrationDue s (some (cond (isFlushed (s .phase)) header flush)))))))
+      go true t = unfold firstOf in refl
+      go false true = idle
+      go false false = rest
 
 -- an advance is due exactly where a write remains
 pub given-first : (ks : List Kind) → given (firstOf ks) ≡ ltb 0 (length ks)

@@ -1,4 +1,4 @@
--- The whole run of document 01, of the definitions: area 8, one range of 1 page (home block 10, its pot 9), 11 blocks, memory of 4 frames.
+-- The whole run of document 01 with document 02's flushes (#110), of the definitions: area 8, one range of 1 page (home block 10, its pot 9), 11 blocks, memory of 4 frames.
 -- Assumes nothing.
 use Prim.Native.Nat.{ℕ, zero, suc}
 use mathlib.Core.List.{List, [], _∷_}
@@ -6,8 +6,8 @@ use mathlib.Core.Option.{Option, none, some}
 use mathlib.Core.Path.{_≡_, refl}
 use Rattle.card.specs.Ring.{ringAt, generationSize}
 use Rattle.recovery.specs.Directory.{noteChange, insertByFrame, byFrame, downEntries, dirOf, turnOf}
-use Rattle.recovery.specs.State.{places, State, size, directoryOf, empty}
-use Rattle.recovery.specs.Step.{queued, changeFrame, changeFrames, afterChange, afterSnapshot, Kind, page, directory, trailer, migration, header, outOf, trailerBlockNo, nextMigration, kindWrite, afterKind, migrationDue, advanceDue}
+use Rattle.recovery.specs.State.{places, State, size, directoryOf, empty, owed}
+use Rattle.recovery.specs.Step.{queued, changeFrame, changeFrames, afterChange, afterSnapshot, Kind, page, directory, trailer, migration, header, flush, outOf, trailerBlockNo, nextMigration, kindWrite, afterKind, migrationDue, advanceDue}
 
 record Line : Type 0 where
   kind : Kind
@@ -38,20 +38,21 @@ began = record {
   pending = empty 1;
   tailDown = 0;
   current = empty 1;
+  phase = owed;
 }
 
 wrote : State
 unfolding began
 wrote = afterSnapshot (afterChange (record { frame = 10; bytes = [] } ∷ record { frame = 9; bytes = [] } ∷ []) began)
 
-whole-run : trace 9 wrote ≡ line page 1 ∷ line page 2 ∷ line directory 3 ∷ line trailer 4 ∷ line header 0 ∷ line migration 9 ∷ line migration 10 ∷ []
+whole-run : trace 12 wrote ≡ line flush 0 ∷ line page 1 ∷ line page 2 ∷ line directory 3 ∷ line trailer 4 ∷ line flush 0 ∷ line header 0 ∷ line flush 0 ∷ line migration 9 ∷ line migration 10 ∷ []
 unfolding trace traced line wrote began advanceDue migrationDue kindWrite afterKind afterChange changeFrames changeFrame queued turnOf noteChange afterSnapshot outOf places size generationSize empty directoryOf dirOf downEntries byFrame insertByFrame nextMigration trailerBlockNo ringAt
 whole-run = refl
 
 -- the directory that goes to the card
 down : State
 unfolding wrote
-down = afterKind page (afterKind page wrote)
+down = afterKind page (afterKind page (afterKind flush wrote))
 
 whole-directory : directoryOf 8 (down .pending) ≡ record { frame = 9; block = 2 } ∷ record { frame = 10; block = 1 } ∷ []
 unfolding down wrote began afterKind afterChange changeFrames changeFrame queued turnOf noteChange afterSnapshot outOf places size generationSize empty directoryOf dirOf downEntries byFrame insertByFrame ringAt

@@ -2,11 +2,12 @@
 -- Assumes nothing.
 use Prim.Native.Nat.{ℕ, _<_}
 use lib.ListN.{length}
+use mathlib.Core.Bool.{Bool, cond}
 use mathlib.Core.List.{List, [], _∷_}
 use mathlib.Core.Option.{Option, none, some, Option·getD}
 use mathlib.Core.Path.{_≡_}
 use Rattle.recovery.specs.Contents.{Contents, FrameBytes, overlay}
-use Rattle.recovery.specs.Step.{Kind, page, directory, trailer, migration, header}
+use Rattle.recovery.specs.Step.{Kind, page, directory, trailer, migration, header, flush}
 
 -- what was asked of frames: present now, as of the last snapshot (if its header is not yet written), as of the last header
 pub record FrameBook : Type 0 where
@@ -41,6 +42,23 @@ bookWrote directory b = b
 bookWrote trailer b = b
 bookWrote migration b = b
 bookWrote header b = bookHeader b
+bookWrote flush b = b
+
+-- ---- a header write that is not flushed may be found old
+
+-- what was kept before it, if there is one
+abbrev pub keptBefore : Kind → FrameBook → Option Contents → Option Contents
+keptBefore page b o = o
+keptBefore directory b o = o
+keptBefore trailer b o = o
+keptBefore migration b o = o
+keptBefore header b o = some (b .kept)
+keptBefore flush b o = none
+
+-- a cut: the header write that is not flushed was found, or what was kept before it is kept again; without one, the header write being made, if any, has reached the card or not
+abbrev pub bookCut : Option Contents → Bool → FrameBook → FrameBook
+bookCut none reached b = cond reached (bookHeader b) b
+bookCut (some k) reached b = record { present = b .present; marked = b .marked; kept = cond reached (b .kept) k }
 
 -- ---- frames that a change may hand down: home frames, with a whole block of bytes
 

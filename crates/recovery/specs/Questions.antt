@@ -3,14 +3,14 @@
 use Prim.Native.Nat.{ℕ, _+_, _-_, _*_}
 use lib.Dec.{leb, ltb, eqb}
 use lib.ListN.{length}
-use mathlib.Core.Bool.{Bool, true, false, cond, _&&_}
+use mathlib.Core.Bool.{Bool, true, false, cond, _&&_, not}
 use mathlib.Core.List.{List, [], _∷_}
 use mathlib.Core.Option.{Option, none, some}
 use Rattle.card.specs.Block.{whole}
 use Rattle.card.specs.Question.{Question, ask, cardAsks}
 use Rattle.card.specs.Ring.{half}
 use Rattle.recovery.specs.Contents.{FrameBytes}
-use Rattle.recovery.specs.State.{State, places, entryCount, size, committedSize}
+use Rattle.recovery.specs.State.{State, places, entryCount, size, committedSize, isOwed}
 use Rattle.recovery.specs.Step.{afterChange, Kind, advanceDue}
 
 -- ---- start: 1, 3 to 8
@@ -44,7 +44,7 @@ unfoldable pub snapshotAsks : State → List Question
 snapshotAsks s = ask 16 (eqb (entryCount (s .pending)) 0) ∷ ask 17 (ltb 0 (entryCount (s .current))) ∷ ask 18 (ltb (s .commit) 4294967295) ∷ []
 
 unfoldable pub pageOutAsks : State → List Question
-pageOutAsks s = ask 19 (ltb 0 (length (s .pending .waiting) + length (s .current .waiting))) ∷ []
+pageOutAsks s = ask 28 (not (isOwed (s .phase))) ∷ ask 19 (ltb 0 (length (s .pending .waiting) + length (s .current .waiting))) ∷ []
 
 abbrev pub given : Option Kind → Bool
 given none = false

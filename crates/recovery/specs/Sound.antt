@@ -9,11 +9,11 @@ use mathlib.Core.Path.{_≡_}
 use Rattle.card.specs.Block.{blockAt}
 use Rattle.card.specs.Bytes.{All}
 use Rattle.card.specs.Range.{geometryFits}
-use Rattle.card.specs.Ring.{ringAt, ringOffset, half}
+use Rattle.card.specs.Ring.{ringAt, ringOffset, half, dirBlocks}
 use Rattle.card.specs.declared.directory.Entry.{Entry}
 use Rattle.recovery.specs.Book.{WholeFrame}
 use Rattle.recovery.specs.Directory.{Note, frameOf}
-use Rattle.recovery.specs.State.{Generation, State, places, entryCount, size, committedSize, directoryOf, waitingFrames}
+use Rattle.recovery.specs.State.{Generation, State, places, entryCount, size, committedSize, directoryOf, waitingFrames, isOwed, isFlushed}
 
 -- ---- what question 2 tells of a generation's entries
 
@@ -76,6 +76,10 @@ pub record Sound (s : State) : Type 0 where
   pub migrated-within : s .migrated ≤ length (s .committed .entries)
   pub tail-within : s .pending .pagesDown + s .tailDown ≤ size (s .pending)
   pub tail-after : 0 < s .tailDown → length (s .pending .waiting) ≡ 0
+  -- the flush before the header write comes after all of these, the one after a header write or a start before any of them
+  pub flushed-after : isFlushed (s .phase) ≡ true
+      → (0 < entryCount (s .pending)) × (length (s .pending .waiting) ≡ 0) × (dirBlocks (entryCount (s .pending)) < s .tailDown) × (length (s .committed .entries) ≤ s .migrated)
+  pub owed-before : isOwed (s .phase) ≡ true → (s .migrated ≡ 0) × (s .tailDown ≡ 0)
   -- e ≤ p, and none pending has nothing
   pub committed-few : length (s .committed .entries) ≤ s .committed .places
   pub pending-few : entryCount (s .pending) ≤ places (s .pending)

@@ -2,6 +2,7 @@
 -- Assumes nothing.
 use Prim.Native.Nat.{ℕ, _+_}
 use lib.ListN.{length}
+use mathlib.Core.Bool.{Bool, true, false}
 use mathlib.Core.List.{List, []}
 use Rattle.card.specs.Block.{blockAt}
 use Rattle.card.specs.Range.{Range}
@@ -24,6 +25,21 @@ pub record Generation : Type 0 where
   pub entries : List Note
   pub waiting : List (List ℕ)
 
+-- How writes stand to flushes: `writing`, what advance puts down for the next header write is not flushed as a whole; `flushed`, the flush just before the header write is made, and
+-- the header write is next; `owed`, a header write or a start is not followed by its flush yet.
+pub data Phase : Type 0 where
+  writing flushed owed : Phase
+
+abbrev pub isOwed : Phase → Bool
+isOwed writing = false
+isOwed flushed = false
+isOwed owed = true
+
+abbrev pub isFlushed : Phase → Bool
+isFlushed writing = false
+isFlushed flushed = true
+isFlushed owed = false
+
 pub record State : Type 0 where
   pub blocks : ℕ
   pub area : ℕ
@@ -35,6 +51,7 @@ pub record State : Type 0 where
   pub pending : Generation
   pub tailDown : ℕ  -- blocks of the pending directory and trailer that are down
   pub current : Generation
+  pub phase : Phase
 
 -- p and e of a generation, waiting frames counted
 unfoldable pub places : Generation → ℕ

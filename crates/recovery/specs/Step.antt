@@ -15,8 +15,8 @@ use Rattle.card.specs.Trailer.{trailerBlock}
 use Rattle.card.specs.declared.directory.Entry.{Entry}
 use Rattle.recovery.specs.Contents.{FrameBytes}
 use Rattle.recovery.specs.Directory.{noteChange, turnOf}
-use Rattle.recovery.specs.State.{Committed, Generation, State, places, entryCount, size, committedSize, directoryOf, empty}
-use Rattle.recovery.specs.Write.{BlockWrite}
+use Rattle.recovery.specs.State.{Committed, Generation, State, places, entryCount, size, committedSize, directoryOf, empty, Phase, writing, flushed, owed, isOwed, isFlushed}
+use Rattle.recovery.specs.Write.{BlockWrite, Drive, seen, settled, written}
 
 -- the state with another pending or current generation
 abbrev pub pendingTo : Generation → ℕ → State → State
@@ -31,6 +31,7 @@ pendingTo g n s = record {
   pending = g;
   tailDown = n;
   current = s .current;
+  phase = s .phase;
 }
 
 abbrev pub currentTo : Generation → State → State
@@ -45,6 +46,7 @@ currentTo g s = record {
   pending = s .pending;
   tailDown = s .tailDown;
   current = g;
+  phase = s .phase;
 }
 
 -- ---- a change of frames
@@ -83,13 +85,14 @@ afterSnapshot s = record {
   pending = s .current;
   tailDown = 0;
   current = empty (ringAt (s .area) (s .current .first) (size (s .current)));
+  phase = s .phase;  -- a flush that is owed stays owed
 }
 
 -- ---- writes
 
--- the kinds that advance reports: P, D, T, M, H
+-- the kinds that advance reports: P, D, T, M, H, F
 pub data Kind : Type 0 where
-  page directory trailer migration header : Kind
+  page directory trailer migration header flush : Kind
 
 unfoldable pub oldestBytes : List (List ℕ) → List ℕ
 oldestBytes [] = []
@@ -124,12 +127,38 @@ unfoldable pub nextMigration : State → Entry
 unfolding noEntry
 nextMigration s = getD (s .committed .entries) (s .migrated) noEntry
 
+-- the block that is reported, with the bytes that are written there; a flush reports block 0
 unfoldable pub kindWrite : Kind → State → List ℕ → BlockWrite
 kindWrite page s c = outWrite (s .area) (s .pending)
 kindWrite directory s c = tailWrite s
 kindWrite trailer s c = tailWrite s
 kindWrite migration s c = record { block = nextMigration s .frame; bytes = blockAt c (nextMigration s .block) }
 kindWrite header s c = record { block = 0; bytes = headerBlock (suc (s .commit)) (trailerBlockNo s) (s .area) (s .ranges) }
+kindWrite flush s c = record { block = 0; bytes = [] }
+
+-- every kind but a flush writes its block
+unfoldable pub kindPut : Kind → BlockWrite → Option BlockWrite
+kindPut page w = some w
+kindPut directory w = some w
+kindPut trailer w = some w
+kindPut migration w = some w
+kindPut header w = some w
+kindPut flush w = none
+
+-- a kind's write joins those that are not flushed; a flush puts all of them down
+abbrev pub kindDrive : Kind → Option BlockWrite → Drive → Drive
+kindDrive page o v = written o v
+kindDrive directory o v = written o v
+kindDrive trailer o v = written o v
+kindDrive migration o v = written o v
+kindDrive header o v = written o v
+kindDrive flush o v = settled (seen v)
+
+-- a flush that is owed leaves writing; the one just before a header write leaves that write next
+abbrev pub afterFlush : Phase → Phase
+afterFlush writing = flushed
+afterFlush flushed = flushed
+afterFlush owed = writing
 
 unfoldable pub afterKind : Kind → State → State
 afterKind page s = pendingTo (outOf (s .pending)) (s .tailDown) s
@@ -146,6 +175,7 @@ afterKind migration s = record {
   pending = s .pending;
   tailDown = s .tailDown;
   current = s .current;
+  phase = s .phase;
 }
 afterKind header s = record {
   blocks = s .blocks;
@@ -158,6 +188,20 @@ afterKind header s = record {
   pending = empty (s .current .first);
   tailDown = 0;
   current = s .current;
+  phase = owed;  -- the flush just after the header write
+}
+afterKind flush s = record {
+  blocks = s .blocks;
+  area = s .area;
+  ranges = s .ranges;
+  memoryFrames = s .memoryFrames;
+  commit = s .commit;
+  committed = s .committed;
+  migrated = s .migrated;
+  pending = s .pending;
+  tailDown = s .tailDown;
+  current = s .current;
+  phase = afterFlush (s .phase);
 }
 
 -- ---- which write is due
@@ -165,12 +209,13 @@ afterKind header s = record {
 unfoldable pub migrationDue : State → Option Kind → Option Kind
 migrationDue s other = cond (ltb (s .migrated) (length (s .committed .entries))) (some migration) other
 
+-- a flush that is owed comes before all else; the one before a header write comes once
 unfoldable pub advanceDue : State → Option Kind
-advanceDue s = cond (eqb (entryCount (s .pending)) 0) (migrationDue s none)
+advanceDue s = cond (isOwed (s .phase)) (some flush) (cond (eqb (entryCount (s .pending)) 0) (migrationDue s none)
     (cond (ltb 0 (length (s .pending .waiting))) (some page)
     (cond (ltb (s .tailDown) (dirBlocks (entryCount (s .pending)))) (some directory)
     (cond (eqb (s .tailDown) (dirBlocks (entryCount (s .pending)))) (some trailer)
-    (migrationDue s (some header)))))
+    (migrationDue s (some (cond (isFlushed (s .phase)) header flush)))))))
 
 -- page-out: pending before current
 unfoldable pub pageOutWrite : State → BlockWrite
@@ -199,4 +244,5 @@ startState m c =
       pending = empty (ringAt (h .area) (g .first) (committedSize g));
       tailDown = 0;
       current = empty (ringAt (h .area) (g .first) (committedSize g));
+      phase = owed;  -- what was written before the start may not be flushed
     }

@@ -10,8 +10,8 @@ use Rattle.card.specs.Question.{Question, ask}
 use Rattle.card.specs.Ring.{half, dirBlocks, generationSize}
 use Rattle.recovery.specs.Contents.{FrameBytes}
 use Rattle.recovery.specs.Directory.{Note, turnOf}
-use Rattle.recovery.specs.State.{Generation, State, places, entryCount}
-use Rattle.recovery.specs.Step.{Kind, page, directory, trailer, migration, header}
+use Rattle.recovery.specs.State.{Generation, State, places, entryCount, isOwed, isFlushed}
+use Rattle.recovery.specs.Step.{Kind, page, directory, trailer, migration, header, flush}
 
 abbrev pub isSome : Option ℕ → Bool
 isSome none = false
@@ -38,14 +38,16 @@ entriesNeeded (w ∷ ws) g = cond (notedIn (w .frame) (g .entries)) 0 1 + entrie
 abbrev pub sizeAfter : List FrameBytes → State → ℕ
 sizeAfter ws s = generationSize (places (s .current) + placesNeeded ws (s .current)) (entryCount (s .current) + entriesNeeded ws (s .current))
 
--- the writes that advance has still to make, in document 01's order
+-- What advance has still to make, in document 01's order, with document 02's flushes (#110): one that is owed first, one before the header write unless it is made, one after it.
 unfoldable pub remainingWrites : State → List Kind
 remainingWrites s =
     let e = entryCount (s .pending) in
     let m = replicate (length (s .committed .entries) - s .migrated) migration in
-    cond (eqb e 0) m
+    cond (isOwed (s .phase)) (flush ∷ []) []
+    ++ cond (eqb e 0) m
     (replicate (length (s .pending .waiting)) page
-    ++ (replicate (dirBlocks e - s .tailDown) directory ++ (replicate (1 - (s .tailDown - dirBlocks e)) trailer ++ (m ++ (header ∷ [])))))
+    ++ (replicate (dirBlocks e - s .tailDown) directory
+    ++ (replicate (1 - (s .tailDown - dirBlocks e)) trailer ++ (m ++ (cond (isFlushed (s .phase)) [] (flush ∷ []) ++ (header ∷ flush ∷ []))))))
 
 unfoldable pub firstOf : List Kind → Option Kind
 firstOf [] = none

@@ -32,12 +32,12 @@ struct Controller {
     memory: Vec<u8>,
 }
 
+/// Durable only once the device is flushed.
 fn put(file: &File, bytes: &[u8], block: usize) -> io::Result<()> {
-    file.write_all_at(bytes, (block * BLOCK) as u64)?;
-    file.sync_data()
+    file.write_all_at(bytes, (block * BLOCK) as u64)
 }
 
-/// The header goes last: start refuses a new file without it.
+/// Durable before it is used; a cut before that is a card to format again.
 fn format(image: &str) -> Outcome<()> {
     let mut card = vec![0; BLOCKS * BLOCK];
     lane::format(&mut card, AREA, &[TAGS])?;
@@ -45,8 +45,8 @@ fn format(image: &str) -> Outcome<()> {
         .write(true)
         .create_new(true)
         .open(image)?;
-    put(&file, &card[BLOCK..], 1)?;
-    put(&file, &card[..BLOCK], 0)?;
+    put(&file, &card, 0)?;
+    file.sync_data()?;
     Ok(())
 }
 
@@ -85,7 +85,7 @@ impl Controller {
         self.advance(kill_at)
     }
 
-    /// The payment is safe once H is written; the M after it only move it home.
+    /// The payment is safe once the F after H is made; the M after it only move it home.
     fn advance(&mut self, kill_at: Option<NonZeroU64>) -> Outcome<()> {
         for n in 1.. {
             let report = match self.store.advance(&mut self.card, &self.memory) {
@@ -94,6 +94,11 @@ impl Controller {
             };
             if kill_at.is_some_and(|at| at.get() == n) {
                 self.cut(report)?;
+            }
+            if matches!(report, Advance::F(_)) {
+                self.file.sync_data()?;
+                println!("{report} flushed");
+                continue;
             }
             put(&self.file, self.block(report), report.block())?;
             println!("{report} written");
@@ -105,9 +110,12 @@ impl Controller {
         &self.card[report.block() * BLOCK..][..BLOCK]
     }
 
-    /// Dies as in a power cut: block 0 is still old, any other has no sense in its first half.
+    /// Dies as in a power cut: block 0 is still old, any other has no sense in its first half. A
+    /// flush is not made.
     fn cut(&self, report: Advance) -> Outcome<()> {
-        if matches!(report, Advance::H(_)) {
+        if matches!(report, Advance::F(_)) {
+            println!("{report} not flushed");
+        } else if matches!(report, Advance::H(_)) {
             println!("{report} not written");
         } else {
             let mut torn = self.block(report).to_vec();

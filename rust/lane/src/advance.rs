@@ -2,7 +2,7 @@ use crate::c::Report;
 use crate::Refusal;
 use std::fmt;
 
-/// The block write that an advance or a page-out made: its kind, with the block written.
+/// The block write that an advance or a page-out made, or the flush that an advance asks for: its kind, with the block written, 0 for a flush.
 #[derive(Clone, Copy, Debug, Eq, Hash, PartialEq)]
 pub enum Advance {
     /// The oldest waiting frame, to the area.
@@ -15,6 +15,8 @@ pub enum Advance {
     M(usize),
     /// The header, block 0: the snapshot is committed.
     H(usize),
+    /// A flush, block 0: no block is written, and the device is to be flushed before the next call.
+    F(usize),
 }
 
 impl Advance {
@@ -30,6 +32,7 @@ impl Advance {
             Advance::T(block) => ('T', block),
             Advance::M(block) => ('M', block),
             Advance::H(block) => ('H', block),
+            Advance::F(block) => ('F', block),
         }
     }
 
@@ -42,6 +45,7 @@ impl Advance {
             3 => Ok(Advance::T(number)),
             4 => Ok(Advance::M(number)),
             5 => Ok(Advance::H(number)),
+            6 => Ok(Advance::F(number)),
             kind => panic!("liblane.a reports kind {kind}, which this crate does not know"),
         }
     }

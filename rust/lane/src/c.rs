@@ -44,6 +44,7 @@ pub struct Record {
     pending: Changes,
     tail: usize,
     current: Changes,
+    phase: usize,
 }
 
 /// What key answers.
@@ -58,7 +59,7 @@ pub struct Present {
 /// What page-out and advance answer.
 #[repr(C)]
 pub struct Report {
-    /// 1 to 5 for P, D, T, M and H; refused, 0.
+    /// 1 to 6 for P, D, T, M, H and F; refused, 0.
     pub kind: u32,
     /// The block written, or the number of the question that was answered "no".
     pub number: usize,
@@ -71,12 +72,13 @@ const _: () = {
     assert!(offset_of!(Directory, blocks) == 520);
     assert!(size_of::<Changes>() == 792);
     assert!(offset_of!(Changes, places) == 536);
-    assert!(size_of::<Record>() == 2760);
+    assert!(size_of::<Record>() == 2768);
     assert!(offset_of!(Record, geometry) == 16);
     assert!(offset_of!(Record, first) == 112);
     assert!(offset_of!(Record, committed) == 128);
     assert!(offset_of!(Record, pending) == 1168);
     assert!(offset_of!(Record, current) == 1968);
+    assert!(offset_of!(Record, phase) == 2760);
     assert!(size_of::<Present>() == 8);
     assert!(offset_of!(Present, count) == 4);
     assert!(size_of::<Report>() == 16);

@@ -52,7 +52,8 @@ refusals! {
     Unchanged = 17, "no frame has changed since the last snapshot or start";
     CommitEnd = 18, "the commit number is 4,294,967,295";
     NoneWaits = 19, "no frame waits";
-    NothingDue = 20, "no block write is due";
+    NothingDue = 20, "no block write and no flush is due";
+    FlushDue = 28, "the flush after a header write or a start is due";
 }
 
 impl Refusal {

@@ -131,6 +131,9 @@ fn a_generation_stays_within_half_the_area() {
 fn every_write_is_reported_until_none_is_due() {
     let mut lane = Lane::new();
     let key = lane.key(100);
+    let owed = lane.store.page_out(&mut lane.card, &lane.memory);
+    assert_eq!(owed, Err(Refusal::FlushDue));
+    assert_eq!(lane.advance(), Ok(Advance::F(0)));
     assert_eq!(lane.advance(), Err(Refusal::NothingDue));
     let none = lane.store.page_out(&mut lane.card, &lane.memory);
     assert_eq!(none, Err(Refusal::NoneWaits));
@@ -139,7 +142,10 @@ fn every_write_is_reported_until_none_is_due() {
     let reports: Vec<String> = std::iter::from_fn(|| lane.advance().ok())
         .map(|report| report.to_string())
         .collect();
-    assert_eq!(reports, ["P 1", "P 2", "D 3", "T 4", "H 0", "M 9", "M 10"]);
+    let all = [
+        "P 1", "P 2", "D 3", "T 4", "F 0", "H 0", "F 0", "M 9", "M 10",
+    ];
+    assert_eq!(reports, all);
     assert_eq!(lane.advance(), Err(Refusal::NothingDue));
 }
 
@@ -148,6 +154,7 @@ fn page_out_writes_one_block_of_the_area() {
     let mut lane = Lane::new();
     let key = lane.key(100);
     lane.write(key, 0, &[7]).unwrap();
+    assert_eq!(lane.advance(), Ok(Advance::F(0)));
     let before = lane.card.clone();
     let paged = lane.store.page_out(&mut lane.card, &lane.memory);
     assert_eq!(paged, Ok(Advance::P(1)));

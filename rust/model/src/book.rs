@@ -18,12 +18,14 @@ const UNTOUCHED: Page = Page {
 /// OIDs that are not in the map are all zeros.
 type Table = BTreeMap<u32, Page>;
 
-/// After a format: present and kept all zeros, marked empty.
+/// After a format: present and kept all zeros, the others empty.
 #[derive(Clone, Debug, Default)]
 pub struct Book {
     present: Table,
     marked: Option<Table>,
     kept: Table,
+    /// What was kept before the last header write, while that is not flushed.
+    before: Option<Table>,
 }
 
 impl Book {
@@ -47,8 +49,28 @@ impl Book {
 
     /// A header write has reached the card.
     pub fn header(&mut self) {
+        self.before = Some(self.kept.clone());
         if let Some(marked) = self.marked.take() {
             self.kept = marked;
+        }
+    }
+
+    /// A flush.
+    pub fn flush(&mut self) {
+        self.before = None;
+    }
+
+    /// A cut, with whether the header write that is not flushed or is being
+    /// made, if any, reached the card.
+    pub fn cut(&mut self, reached: bool) {
+        match self.before.take() {
+            Some(_) if reached => {}
+            Some(before) => self.kept = before,
+            None if reached => {
+                self.header();
+                self.before = None;
+            }
+            None => {}
         }
     }
 

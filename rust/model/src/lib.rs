@@ -16,7 +16,7 @@ pub mod store;
 pub use book::{Book, Page};
 pub use geometry::{Geometry, Range};
 pub use model::{Lent, Model};
-pub use store::{Kind, Store};
+pub use store::{Kind, Phase, Store};
 
 /// The number of the first question answered "no".
 pub type Refusal = u32;

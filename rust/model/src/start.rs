@@ -3,7 +3,7 @@
 use crate::blocks::{get, number, ENTRIES, TRAILER_AT};
 use crate::generation::{size, Changes, Committed};
 use crate::geometry::Geometry;
-use crate::store::Store;
+use crate::store::{Phase, Store};
 use crate::Refusal;
 
 /// The store that a card of whole blocks holds.
@@ -34,6 +34,7 @@ pub fn start(card: &[u8], blocks: usize, memory: usize) -> Result<Store, Refusal
         committed,
         pending: None,
         current: Changes::none(first),
+        phase: Phase::Owed,
     })
 }
 

@@ -6,7 +6,7 @@ use crate::generation::{directory_blocks, size, Changes, Committed, Pending};
 use crate::geometry::Geometry;
 use crate::{Refusal, LAST_NUMBER};
 
-/// The kinds of block that advance writes.
+/// The kinds that advance reports.
 #[derive(Clone, Copy, Debug, PartialEq, Eq)]
 pub enum Kind {
     /// A waiting frame of the pending generation.
@@ -19,6 +19,19 @@ pub enum Kind {
     M,
     /// The header.
     H,
+    /// A flush, which writes no block and reports block 0.
+    F,
+}
+
+/// How flushes stand.
+#[derive(Clone, Copy, Debug, PartialEq, Eq)]
+pub enum Phase {
+    /// The next header write needs a flush first.
+    Writing,
+    /// That flush is made, and the header write is next.
+    Flushed,
+    /// The flush after a header write or a start is due.
+    Owed,
 }
 
 #[derive(Clone, Debug)]
@@ -30,6 +43,7 @@ pub struct Store {
     pub committed: Option<Committed>,
     pub pending: Option<Pending>,
     pub current: Changes,
+    pub phase: Phase,
 }
 
 impl Store {
@@ -118,6 +132,9 @@ impl Store {
     /// Writes the oldest waiting frame, pending before current, and says in
     /// which block.
     pub fn page_out(&mut self, card: &mut [u8]) -> Result<usize, Refusal> {
+        if self.phase == Phase::Owed {
+            return Err(28);
+        }
         let pending = self.pending.as_mut().map(|pending| &mut pending.changes);
         for changes in pending.into_iter().chain([&mut self.current]) {
             if let Some(oldest) = changes.waiting.pop_front() {
@@ -133,6 +150,9 @@ impl Store {
 
     /// The kind that advance writes next, if one is due.
     pub fn due(&self) -> Option<Kind> {
+        if self.phase == Phase::Owed {
+            return Some(Kind::F);
+        }
         let committed = self.committed.as_ref();
         let migrating = committed.is_some_and(|committed| committed.to_migrate().is_some());
         let Some(pending) = &self.pending else {
@@ -146,12 +166,24 @@ impl Store {
             Some(Kind::T)
         } else if migrating {
             Some(Kind::M)
+        } else if self.phase == Phase::Writing {
+            Some(Kind::F)
         } else {
             Some(Kind::H)
         }
     }
 
-    /// One block write; says its kind and block.
+    /// A flush that was owed leaves writing; the one before a header write
+    /// leaves that write next.
+    fn flush(&mut self) -> usize {
+        self.phase = match self.phase {
+            Phase::Owed => Phase::Writing,
+            Phase::Writing | Phase::Flushed => Phase::Flushed,
+        };
+        0
+    }
+
+    /// One block write or a flush; says its kind and block.
     pub fn advance(&mut self, card: &mut [u8]) -> Result<(Kind, usize), Refusal> {
         let kind = self.due().ok_or(20u32)?;
         let block = match kind {
@@ -160,6 +192,7 @@ impl Store {
             Kind::D => self.put_directory(card).ok_or(20u32)?,
             Kind::T => self.put_trailer(card).ok_or(20u32)?,
             Kind::H => self.put_header(card).ok_or(20u32)?,
+            Kind::F => self.flush(),
         };
         Ok((kind, block))
     }
@@ -231,6 +264,7 @@ impl Store {
             entries: self.pending_entries(&pending.changes),
             migrated: 0,
         });
+        self.phase = Phase::Owed;
         Some(0)
     }
 }

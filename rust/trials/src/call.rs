@@ -147,7 +147,7 @@ pub enum Answer {
     Done,
     Count(u32),
     Wrote(Kind, usize),
-    /// Nothing the interface knows, such as a sixth kind.
+    /// Nothing the interface knows, such as a seventh kind.
     Strange,
 }
 

@@ -29,14 +29,16 @@ pub struct State {
 /// Each thing that advance can have due, while a current frame waits: with
 /// nothing committed yet, with a committed generation, and with a pending one
 /// too. Then a committed directory of several blocks, without more.
-pub const STATES: [State; 13] = [
+pub const STATES: [State; 15] = [
     state(None, false),
     state(Some(Kind::M), false),
     state(Some(Kind::P), true),
     state(Some(Kind::D), true),
     state(Some(Kind::T), true),
     state(Some(Kind::M), true),
+    state(Some(Kind::F), true),
     state(Some(Kind::H), true),
+    state(Some(Kind::F), false),
     state(None, false).fresh(),
     state(Some(Kind::P), true).fresh(),
     state(Some(Kind::D), true).fresh(),

@@ -103,6 +103,7 @@ fn reported(report: Report) -> Answer {
         3 => Kind::T,
         4 => Kind::M,
         5 => Kind::H,
+        6 => Kind::F,
         _ => return Answer::Strange,
     };
     Answer::Wrote(kind, report.number)

@@ -26,6 +26,9 @@ pub enum Step {
     Cut {
         call: Option<Call>,
         left: Left,
+        /// Seed of which unflushed writes are down, and in which order; 0 is
+        /// all, in the order made.
+        kept: u64,
         restart: Restart,
     },
     /// After a cut the kept commit number is rewritten, in header and trailer.
@@ -42,7 +45,7 @@ pub struct Lending {
     pub memory: Option<usize>,
 }
 
-/// What a cut leaves of the block that its call writes.
+/// What a cut leaves of the last block that is put down.
 #[derive(Clone, Copy, Debug, PartialEq)]
 pub enum Left {
     Old,
@@ -164,11 +167,15 @@ impl fmt::Display for Step {
             Step::Cut {
                 call,
                 left,
+                kept,
                 restart,
             } => {
                 match call {
                     Some(call) => write!(f, "cut in {call} leaving {left:?}")?,
                     None => write!(f, "cut")?,
+                }
+                if *kept != 0 {
+                    write!(f, " and unflushed writes by seed {kept:#x}")?;
                 }
                 if restart.lost != 0 {
                     let seed = restart.lost;

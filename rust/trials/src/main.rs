@@ -38,7 +38,7 @@ struct Options {
 
 const DEFAULT: Options = Options {
     seed: 1,
-    lists: 7500,
+    lists: 8600,
     part: None,
 };
 

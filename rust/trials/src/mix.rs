@@ -277,9 +277,11 @@ impl Mix {
     fn cut_in(&mut self, call: Option<Call>) -> Step {
         let seed = self.rng.next();
         let left = [Left::Old, Left::New, Left::Any(seed), Left::Mixed(seed)];
+        let kept = self.rng.next();
         Step::Cut {
             call,
             left: self.rng.pick(&left),
+            kept: self.rng.pick(&[0, kept]),
             restart: Restart {
                 frames: self.frames(),
                 lost: self.rng.pick(&[0, seed]),

@@ -39,7 +39,7 @@ impl Reference for Model {
                 Answer::Wrote(Kind::P, block)
             }),
             Call::Advance => self.advance(lent).map(|(kind, block)| {
-                wrote = Some(block);
+                wrote = (kind != Kind::F).then_some(block);
                 Answer::Wrote(kind, block)
             }),
         };

@@ -4,9 +4,10 @@ use crate::call::{Answer, Call};
 use crate::library::Library;
 use crate::list::{numbers, Left, Lending, List, Restart, Step};
 use crate::reference::Reference;
+use crate::rng::Rng;
 use crate::stock::{fill, CARD_SLACK};
 use crate::tally::{Remains, Tally};
-use crate::trial::Trial;
+use crate::trial::{Made, Trial, Unflushed};
 use model::blocks::{get, number, put, put_number, Block, TRAILER_AT};
 use model::geometry::BLOCK;
 use model::{Book, Geometry, Kind, Page};
@@ -84,11 +85,13 @@ impl<L: Library, R: Reference> Trial<'_, L, R> {
             Step::Cut {
                 call,
                 left,
+                kept,
                 restart,
             } => {
                 self.tally.cuts += 1;
-                if let Some(call) = call {
-                    self.cut_in(call.clone(), *left)?;
+                match call {
+                    Some(call) => self.cut_in(call.clone(), *left, *kept)?,
+                    None => self.settle(*left, *kept),
                 }
                 self.restart(*restart)
             }
@@ -114,9 +117,13 @@ impl<L: Library, R: Reference> Trial<'_, L, R> {
         if !made.answer.is_done() {
             return Ok(());
         }
+        self.note_write(&made);
         self.enter(&call, &made.answer);
         match call {
             Call::Format { area, ranges } => {
+                // Nothing can be written before the first flush, and there is
+                // no cut before it that could take the format's own writes.
+                self.since.clear();
                 let blocks = lent.card / BLOCK;
                 let geometry = Geometry::new(blocks, area, &ranges);
                 self.geometry = geometry.ok_or("format is done on limits not kept")?;
@@ -142,33 +149,82 @@ impl<L: Library, R: Reference> Trial<'_, L, R> {
             (Call::Rescind { oid, .. }, _) => book.rescind(*oid),
             (Call::Snapshot, _) => book.snapshot(),
             (Call::Advance, Answer::Wrote(Kind::H, _)) => book.header(),
+            (Call::Advance, Answer::Wrote(Kind::F, _)) => book.flush(),
             _ => {}
         }
     }
 
-    /// A cut in a call: its block is left as told, its answer is lost.
-    fn cut_in(&mut self, call: Call, left: Left) -> Result<(), String> {
+    /// A call's write is not flushed; a flush leaves none.
+    fn note_write(&mut self, made: &Made) {
+        if let Answer::Wrote(Kind::F, _) = made.answer {
+            self.since.clear();
+        }
+        if let Some((block, old)) = made.overwritten {
+            let new = get(&self.stock.card, block);
+            self.since.push(Unflushed { block, old, new });
+        }
+    }
+
+    fn put_both(&mut self, block: usize, bytes: &Block) {
+        put(&mut self.stock.card, block, bytes);
+        put(&mut self.reference.model().card, block, bytes);
+    }
+
+    /// The power is cut: of the writes since the last flush any are down, in
+    /// any order, the last one torn, and the book is told what became of the
+    /// header.
+    fn settle(&mut self, left: Left, kept: u64) {
+        let made = std::mem::take(&mut self.since);
+        let header = made.iter().rev().find(|write| write.block == 0);
+        let header = header.map(|write| write.new);
+        let mut down = made.clone();
+        if kept != 0 {
+            let mut rng = Rng::new(kept);
+            for i in (1..down.len()).rev() {
+                down.swap(i, rng.below(i + 1));
+            }
+            down.truncate(rng.below(down.len() + 1));
+        }
+        for write in made.iter().rev() {
+            self.put_both(write.block, &write.old);
+        }
+        let last = down.len().saturating_sub(1);
+        for (i, write) in down.iter().enumerate() {
+            let before = get(&self.stock.card, write.block);
+            let bytes = match i == last {
+                true => left.bytes(write.block, &before, &write.new),
+                false => write.new,
+            };
+            self.put_both(write.block, &bytes);
+        }
+        let reached = header.is_some_and(|bytes| bytes == get(&self.stock.card, 0));
+        if let Some(book) = &mut self.book {
+            book.cut(reached);
+        }
+    }
+
+    /// A cut in a call: its write is one of those that are not flushed, its
+    /// answer is lost.
+    fn cut_in(&mut self, call: Call, left: Left, kept: u64) -> Result<(), String> {
         let call = self.counted(call);
         let made = self.make(&call, Lending::default())?;
         let Some((block, old)) = made.overwritten else {
+            self.settle(left, kept);
             return Ok(());
         };
         let new = get(&self.stock.card, block);
-        let bytes = left.bytes(block, &old, &new);
-        put(&mut self.stock.card, block, &bytes);
-        put(&mut self.reference.model().card, block, &bytes);
+        self.since.push(Unflushed { block, old, new });
+        self.settle(left, kept);
+        let bytes = get(&self.stock.card, block);
         if let Some(remains) = remains(&bytes, &old, &new) {
             self.tally.count_cut(&call, &made.answer, remains);
-        }
-        let header_reached = block == 0 && bytes == new;
-        if let Some(book) = self.book.as_mut().filter(|_| header_reached) {
-            book.header();
         }
         Ok(())
     }
 
     /// Record and memory are lost, then start, which must be done.
     fn restart(&mut self, restart: Restart) -> Result<(), String> {
+        self.settle(Left::New, 0);
         self.frames = restart.frames;
         for _ in 0..1 + usize::from(restart.again) {
             self.stock.lose(restart.lost);

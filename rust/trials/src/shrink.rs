@@ -128,8 +128,9 @@ fn simpler(step: &Step) -> Vec<Step> {
         Step::Cut {
             call,
             left,
+            kept,
             restart,
-        } => simpler_cuts(call, *left, *restart),
+        } => simpler_cuts(call, *left, *kept, *restart),
         Step::DoctorCommit(_) => vec![Step::DoctorCommit(1)],
         &Step::DoctorPot { oid, count, flags } => [(0, 1), (count, 1), (0, flags)]
             .map(|(count, flags)| Step::DoctorPot { oid, count, flags })
@@ -137,7 +138,7 @@ fn simpler(step: &Step) -> Vec<Step> {
     }
 }
 
-fn simpler_cuts(call: &Option<Call>, left: Left, restart: Restart) -> Vec<Step> {
+fn simpler_cuts(call: &Option<Call>, left: Left, kept: u64, restart: Restart) -> Vec<Step> {
     let mut steps = Vec::new();
     let plain = Restart::plain(4);
     let forms = [
@@ -150,6 +151,7 @@ fn simpler_cuts(call: &Option<Call>, left: Left, restart: Restart) -> Vec<Step> 
         steps.push(Step::Cut {
             call,
             left,
+            kept,
             restart,
         });
     }

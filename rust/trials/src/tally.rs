@@ -14,7 +14,7 @@ const POSSIBLE: [&[u32]; 9] = [
     &[0, 1, 2, 3, 9, 10, 11, 12, 13, 14],
     &[0, 1, 2, 3, 9, 10, 12, 13, 14, 15],
     &[0, 1, 2, 3, 16, 17, 18],
-    &[0, 1, 2, 3, 19],
+    &[0, 1, 2, 3, 19, 28],
     &[0, 1, 2, 3, 20],
 ];
 
@@ -24,10 +24,11 @@ const START: usize = 1;
 const DEEP: usize = 192;
 
 /// The block writes a cut can be in: advance's kinds, in `Kind`'s order, and
-/// page-out's.
-const WRITES: [&str; 6] = ["P", "D", "T", "M", "H", "page-out"];
+/// page-out's. F writes none.
+const WRITES: [&str; 7] = ["P", "D", "T", "M", "H", "F", "page-out"];
 const HEADER: usize = Kind::H as usize;
-const PAGE_OUT: usize = 5;
+const FLUSH: usize = Kind::F as usize;
+const PAGE_OUT: usize = 6;
 
 /// What a cut has left of the block, in `Remains`' order.
 const REMAINS: [&str; 3] = ["old", "new", "torn"];
@@ -41,7 +42,7 @@ pub enum Remains {
 
 /// A header is left old or new, never torn.
 fn can_remain(write: usize, remains: usize) -> bool {
-    write != HEADER || remains != Remains::Torn as usize
+    write != FLUSH && (write != HEADER || remains != Remains::Torn as usize)
 }
 
 /// Numbers that only doctored records and cards bring about.
@@ -51,15 +52,15 @@ fn needs_doctoring(row: usize, number: u32) -> bool {
 
 #[derive(Clone, Default)]
 pub struct Tally {
-    answers: [[u64; 21]; 9],
-    kinds: [u64; 5],
+    answers: [[u64; 29]; 9],
+    kinds: [u64; 6],
     /// The most entries of a directory.
     pub fullest: usize,
     pub lists: u64,
     pub cuts: u64,
     /// Cuts in block writes, by write and by what was left; where old and new
     /// are the same bytes, only torn ones.
-    cuts_in: [[u64; 3]; 6],
+    cuts_in: [[u64; 3]; 7],
     /// Blocks of the largest card that was started.
     largest: usize,
     /// The lengths of memory that were lent to a start, in frames.
@@ -136,7 +137,7 @@ impl Tally {
     /// Numbers that lists can bring about and did not.
     pub fn missing_from_lists(&self) -> Vec<String> {
         let mut missing = self.missing(|row, number| !needs_doctoring(row, number));
-        for kind in [Kind::P, Kind::D, Kind::T, Kind::M, Kind::H] {
+        for kind in [Kind::P, Kind::D, Kind::T, Kind::M, Kind::H, Kind::F] {
             if self.kinds[kind as usize] == 0 {
                 missing.push(format!("advance {kind:?}"));
             }
@@ -209,8 +210,8 @@ impl Tally {
             }
             lines.push('\n');
         }
-        let [p, d, t, m, h] = self.kinds;
-        lines += &format!("  advance wrote P {p}, D {d}, T {t}, M {m}, H {h}");
+        let [p, d, t, m, h, f] = self.kinds;
+        lines += &format!("  advance made P {p}, D {d}, T {t}, M {m}, H {h}, F {f}");
         lines + &format!("; fullest directory {} entries\n", self.fullest)
     }
 }

@@ -37,6 +37,16 @@ pub struct Trial<'t, L, R> {
     /// The OIDs that any step has named: a page that was written and lost
     /// in a cut is among them.
     pub named: BTreeSet<u32>,
+    /// The writes since the last flush.
+    pub since: Vec<Unflushed>,
+}
+
+/// A block write that is not flushed, with what the block held before it.
+#[derive(Clone, Copy)]
+pub struct Unflushed {
+    pub block: usize,
+    pub old: Block,
+    pub new: Block,
 }
 
 /// Record and memory before a call. Of memory all that is lent is kept, and a
@@ -90,6 +100,7 @@ impl<'t, L: Library, R: Reference> Trial<'t, L, R> {
             before,
             made: 0,
             named: BTreeSet::new(),
+            since: Vec::new(),
         }
     }
 

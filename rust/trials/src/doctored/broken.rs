@@ -3,15 +3,15 @@
 use super::form::{
     element_at, is_known, place_at, put_element, put_place, put_size, size_at, Directory, AREA,
     COMMIT, COMMITTED, COMMITTED_BLOCKS, CURRENT, FIRST, GEOMETRY_BLOCKS, HEAD, MIGRATED, PAGES,
-    PENDING, RANGES, RANGE_NUMBERS, TAIL, WIDTH,
+    PENDING, PHASE, RANGES, RANGE_NUMBERS, TAIL, WIDTH,
 };
 use crate::library::Record;
 use crate::rng::Rng;
 use model::generation::{directory_blocks, size, Changes, Committed, Pending};
-use model::Store;
+use model::{Kind, Phase, Store};
 
 /// What a run must have broken, in one state or another.
-pub const SENTENCES: [&str; 28] = [
+pub const SENTENCES: [&str; 31] = [
     "A",
     "the number of ranges",
     "the number of blocks",
@@ -40,6 +40,9 @@ pub const SENTENCES: [&str; 28] = [
     "head",
     "tail, while a pending frame waits",
     "tail, above directory and trailer",
+    "the phase",
+    "flushed, before all is down",
+    "owed, with work done",
 ];
 
 /// A record with one sentence broken.
@@ -87,6 +90,10 @@ pub fn doctored(good: &Record, store: &Store, rng: &mut Rng) -> Result<Doctored,
     breaker.directory(CURRENT, rng);
     breaker.places(CURRENT, &store.current);
     breaker.memory();
+    breaker.phase();
+    for record in &mut breaker.made.held {
+        put_size(record, PHASE, 0);
+    }
     Ok(breaker.made)
 }
 
@@ -105,6 +112,28 @@ impl Breaker<'_> {
     fn set(&mut self, sentence: &'static str, at: usize, to: usize) {
         let what = format!("made {to}");
         self.push(sentence, what, |record| put_size(record, at, to));
+    }
+
+    /// The flush before a header write comes last, the one that is owed first.
+    fn phase(&mut self) {
+        for other in [3, 4, 256] {
+            self.set("the phase", PHASE, other);
+        }
+        let all_down = self.store.pending.is_some()
+            && match self.store.phase {
+                Phase::Flushed => true,
+                Phase::Writing => self.store.due() == Some(Kind::F),
+                Phase::Owed => false,
+            };
+        if !all_down {
+            self.set("flushed, before all is down", PHASE, 1);
+        }
+        let migrated = self.store.committed.as_ref().map_or(0, |c| c.migrated);
+        let pending = self.store.pending.as_ref();
+        let tail = pending.map_or(0, |p| p.directory_down + usize::from(p.trailer_down));
+        if migrated + tail > 0 {
+            self.set("owed, with work done", PHASE, 2);
+        }
     }
 
     /// One element of an array made another.

@@ -4,7 +4,7 @@
 use crate::library::Record;
 use model::blocks::{number, put_number};
 use model::generation::Committed;
-use model::Store;
+use model::{Phase, Store};
 
 /// Frames of memory.
 pub const FRAMES: usize = 0;
@@ -33,6 +33,8 @@ pub const CURRENT: Directory = Directory {
     count: 1968,
     frames: 1992,
 };
+/// How flushes stand: 0 writing, 1 flushed for the header, 2 one is owed.
+pub const PHASE: usize = 2760;
 /// Bytes of a frame's or a block's number. A place has one.
 pub const WIDTH: usize = 2;
 
@@ -111,11 +113,20 @@ pub fn is_known(record: &Record, store: &Store) -> bool {
         (CURRENT.count, store.current.e()),
         (CURRENT.taken(), store.current.p()),
         (CURRENT.down(), store.current.written.len()),
+        (PHASE, phase(store)),
     ];
     sizes.iter().all(stands)
         && pending_sizes(store).iter().all(stands)
         && size_at(record, HEAD) < store.memory
         && is_known_directory(record, store)
+}
+
+fn phase(store: &Store) -> usize {
+    match store.phase {
+        Phase::Writing => 0,
+        Phase::Flushed => 1,
+        Phase::Owed => 2,
+    }
 }
 
 fn pending_sizes(store: &Store) -> [(usize, usize); 4] {

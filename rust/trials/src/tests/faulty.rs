@@ -131,7 +131,7 @@ impl Faulty {
             Some((kind, block)) => Reply {
                 answer: Answer::Wrote(kind, block),
                 page: None,
-                wrote: Some(block),
+                wrote: (kind != Kind::F).then_some(block),
             },
         }
     }

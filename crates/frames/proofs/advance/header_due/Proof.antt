@@ -2,9 +2,10 @@
 -- Assumes nothing.
 use borrow.Author.Needs.{needs}
 use native.Mathlib.Omega.{arith}
-use Rattle.frames.proofs.DueLaws.{due-migration, advance-done, due-header}
+use Rattle.frames.proofs.DueLaws.{due-migration, advance-done, advance-flushed, migration-put, header-put, not-owed, due-flush, due-header}
 use Rattle.frames.proofs.ReadyLaws.{ready, writable}
 use Rattle.frames.specs.Promise.{reported}
+use Rattle.record.proofs.Held.{held}
 use Rattle.recovery.specs.Step.{migration, header}
 use Rattle.frames.proofs.advance.header_due.Statement.{statement}
 use Rattle.frames.proofs.advance.header_due.Tie as tie
@@ -12,24 +13,36 @@ use Rattle.frames.proofs.advance.header_due.Tie as tie
 migrate-requires : tie.Need-migrate-requires
 migrate-requires c κs =
     let at-start = c .before .before .before .before .before in
-    (writable (at-start .args .s) _ _ (ready (at-start .args .s) _ _ (at-start .pre .0)), (c .before .if1 .taken))
+    (writable (at-start .args .s) _ _ (ready (at-start .args .s) _ _ (at-start .pre .0)) (at-start .pre .1 .1 .1 .1), (c .before .if1 .taken))
 
 returns : tie.Need-returns
 unfolding reported
 returns c =
     let at-start = c .before .before .before .before .before .before .before .before .before in
-    advance-done (at-start .args .s) _ _ (at-start .pre .0) migration _ _ (due-migration (at-start .args .s) _ (λ e. omega (arith, e, (at-start .pre .1 .1 .0))) (at-start .pre .1 .0) (at-start .pre .1 .1 .1) (c .before .before .before .before .before .if1 .taken)) ((c .before .before .before .migrate .ensures) _)
+    advance-done (at-start .args .s) _ _ (at-start .pre .0) migration migration-put _ _ (due-migration (at-start .args .s) _ (not-owed (at-start .args .s) (at-start .pre .1 .1 .1 .1) (held (at-start .args .s) (ready (at-start .args .s) _ _ (at-start .pre .0) .together))) (λ e. omega (arith, e, (at-start .pre .1 .1 .0))) (at-start .pre .1 .0) (at-start .pre .1 .1 .1 .0) (c .before .before .before .before .before .if1 .taken)) ((c .before .before .before .migrate .ensures) _)
 
-header-block-requires : tie.Need-header-block-requires
-header-block-requires c κs =
-    let at-start = c .before .before .before .before .before in
-    (writable (at-start .args .s) _ _ (ready (at-start .args .s) _ _ (at-start .pre .0)), ((at-start .pre .1 .0), (at-start .pre .1 .1 .0)))
+flush-all-requires : tie.Need-flush-all-requires
+flush-all-requires c κs =
+    let at-start = c .before .before .before .before .before .before in
+    (ready (at-start .args .s) _ _ (at-start .pre .0) .together, ((c .if2 .taken), ((at-start .pre .1 .1 .0), ((at-start .pre .1 .1 .1 .0), (c .before .before .if1 .left)))))
 
 returns-2 : tie.Need-returns-2
 unfolding reported
 returns-2 c =
-    let at-start = c .before .before .before .before .before .before .before .before .before in
-    advance-done (at-start .args .s) _ _ (at-start .pre .0) header _ _ (due-header (at-start .args .s) _ (λ e. omega (arith, e, (at-start .pre .1 .1 .0))) (at-start .pre .1 .0) (at-start .pre .1 .1 .1) (c .before .before .before .before .before .if1 .left)) ((c .before .before .before .header-block .ensures) _)
+    let at-start = c .before .before .before .before .before .before .before in
+    advance-flushed (at-start .args .s) _ _ (at-start .pre .0) _ (due-flush (at-start .args .s) _ (not-owed (at-start .args .s) (at-start .pre .1 .1 .1 .1) (held (at-start .args .s) (ready (at-start .args .s) _ _ (at-start .pre .0) .together))) (λ e. omega (arith, e, (at-start .pre .1 .1 .0))) (at-start .pre .1 .0) (at-start .pre .1 .1 .1 .0) (c .before .before .before .if1 .left) (c .before .if2 .taken)) (c .flush-all .ensures)
+
+header-block-requires : tie.Need-header-block-requires
+header-block-requires c κs =
+    let at-start = c .before .before .before .before .before .before .before in
+    (writable (at-start .args .s) _ _ (ready (at-start .args .s) _ _ (at-start .pre .0)) (at-start .pre .1 .1 .1 .1), ((at-start .pre .1 .0), (at-start .pre .1 .1 .0)))
+
+returns-3 : tie.Need-returns-3
+unfolding reported
+returns-3 c =
+    let at-start = c .before .before .before .before .before .before .before .before .before .before .before in
+    let h = held (at-start .args .s) (ready (at-start .args .s) _ _ (at-start .pre .0) .together) in
+    advance-done (at-start .args .s) _ _ (at-start .pre .0) header header-put _ _ (due-header (at-start .args .s) _ (not-owed (at-start .args .s) (at-start .pre .1 .1 .1 .1) (held (at-start .args .s) (ready (at-start .args .s) _ _ (at-start .pre .0) .together))) (λ e. omega (arith, e, (at-start .pre .1 .1 .0))) (at-start .pre .1 .0) (at-start .pre .1 .1 .1 .0) (c .before .before .before .before .before .before .before .if1 .left) (omega (arith, h .phase-known, (c .before .before .before .before .before .if2 .left), (at-start .pre .1 .1 .1 .1)))) ((c .before .before .before .header-block .ensures) _)
 
 pub header-due-spec : {M : Type 1} → statement M
 header-due-spec =
@@ -38,6 +51,8 @@ header-due-spec =
     migrate-requires
     (λ c. search needs)
     returns
+    flush-all-requires
+    returns-2
     header-block-requires
     (λ c. search needs)
-    returns-2)
+    returns-3)

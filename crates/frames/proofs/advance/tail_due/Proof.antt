@@ -2,7 +2,7 @@
 -- Assumes nothing.
 use borrow.Author.Needs.{needs}
 use native.Mathlib.Omega.{arith}
-use Rattle.frames.proofs.DueLaws.{advance-done, due-directory, due-trailer}
+use Rattle.frames.proofs.DueLaws.{advance-done, directory-put, trailer-put, not-owed, due-directory, due-trailer}
 use Rattle.frames.proofs.ReadyLaws.{ready, writable}
 use Rattle.frames.specs.Promise.{reported}
 use Rattle.record.proofs.Held.{held, bounds}
@@ -18,29 +18,29 @@ add-blocks c =
 directory-block-requires : tie.Need-directory-block-requires
 directory-block-requires c κs =
     let at-start = c .before .before .before .before .before .before in
-    (writable (at-start .args .s) _ _ (ready (at-start .args .s) _ _ (at-start .pre .0)), ((at-start .pre .1 .0), (c .before .if1 .taken)))
+    (writable (at-start .args .s) _ _ (ready (at-start .args .s) _ _ (at-start .pre .0)) (at-start .pre .1 .1 .1), ((at-start .pre .1 .0), (c .before .if1 .taken)))
 
 returns : tie.Need-returns
 unfolding reported
 returns c =
     let at-start = c .before .before .before .before .before .before .before .before .before .before in
-    advance-done (at-start .args .s) _ _ (at-start .pre .0) directory _ _ (due-directory (at-start .args .s) _ (λ e. omega (arith, e, (at-start .pre .1 .1))) (at-start .pre .1 .0) (c .before .before .before .before .before .if1 .taken)) ((c .before .before .before .directory-block .ensures) _)
+    advance-done (at-start .args .s) _ _ (at-start .pre .0) directory directory-put _ _ (due-directory (at-start .args .s) _ (not-owed (at-start .args .s) (at-start .pre .1 .1 .1) (held (at-start .args .s) (ready (at-start .args .s) _ _ (at-start .pre .0) .together))) (λ e. omega (arith, e, (at-start .pre .1 .1 .0))) (at-start .pre .1 .0) (c .before .before .before .before .before .if1 .taken)) ((c .before .before .before .directory-block .ensures) _)
 
 trailer-block-requires : tie.Need-trailer-block-requires
 trailer-block-requires c κs =
     let at-start = c .before .before .before .before .before .before .before .before in
-    (writable (at-start .args .s) _ _ (ready (at-start .args .s) _ _ (at-start .pre .0)), ((at-start .pre .1 .0), ((at-start .pre .1 .1), (c .before .if2 .taken))))
+    (writable (at-start .args .s) _ _ (ready (at-start .args .s) _ _ (at-start .pre .0)) (at-start .pre .1 .1 .1), ((at-start .pre .1 .0), ((at-start .pre .1 .1 .0), (c .before .if2 .taken))))
 
 returns-2 : tie.Need-returns-2
 unfolding reported
 returns-2 c =
     let at-start = c .before .before .before .before .before .before .before .before .before .before .before .before in
-    advance-done (at-start .args .s) _ _ (at-start .pre .0) trailer _ _ (due-trailer (at-start .args .s) _ (λ e. omega (arith, e, (at-start .pre .1 .1))) (at-start .pre .1 .0) (c .before .before .before .before .before .if2 .taken)) ((c .before .before .before .trailer-block .ensures) _)
+    advance-done (at-start .args .s) _ _ (at-start .pre .0) trailer trailer-put _ _ (due-trailer (at-start .args .s) _ (not-owed (at-start .args .s) (at-start .pre .1 .1 .1) (held (at-start .args .s) (ready (at-start .args .s) _ _ (at-start .pre .0) .together))) (λ e. omega (arith, e, (at-start .pre .1 .1 .0))) (at-start .pre .1 .0) (c .before .before .before .before .before .if2 .taken)) ((c .before .before .before .trailer-block .ensures) _)
 
 header-due-requires : tie.Need-header-due-requires
 header-due-requires c κs =
     let at-start = c .before .before .before .before .before .before .before .before in
-    ((at-start .pre .0), ((at-start .pre .1 .0), ((at-start .pre .1 .1), omega (arith, (c .before .before .before .if1 .left), (c .before .if2 .left)))))
+    ((at-start .pre .0), ((at-start .pre .1 .0), ((at-start .pre .1 .1 .0), (omega (arith, (c .before .before .before .if1 .left), (c .before .if2 .left)), (at-start .pre .1 .1 .1)))))
 
 pub tail-due-spec : {M : Type 1} → statement M
 tail-due-spec =

@@ -72,7 +72,7 @@ tail-down-requires c κs =
     let still = at-start .pre .1 .0 in
     let more = at-start .pre .1 .1 in
     let any : 0 < s .pending .count = omega (arith, more) in
-    (w .together, (still, (any, omega (arith, more))))
+    (w .together, (still, (any, (omega (arith, more), w .calm))))
 
 returns : tie.Need-returns
 returns c =

@@ -48,7 +48,7 @@ returns c =
     let w = at-start .pre .0 in
     let h = held s (w .together) in
     let more = at-start .pre .1 in
-    kind-done migration s _ _ _ (now (at-start .args .card)) _ (home-write s h more _ _ (at-at .ensures .0) (c .before .before .before .before .at2 .ensures .0) (now (at-start .args .card))) (c .before .before .copy .ensures) (home-step s h more)
+    kind-done migration s _ _ _ (now (at-start .args .card)) _ (home-write s h more _ _ (at-at .ensures .0) (c .before .before .before .before .at2 .ensures .0) (now (at-start .args .card))) (c .before .before .copy .ensures) (home-step s h more (w .calm))
 
 pub migrate-spec : {M : Type 1} → statement M
 migrate-spec =

@@ -11,13 +11,13 @@ add-next c =
     let s = c .before .args .s in
     let h = held s (c .before .pre .0) in
     let b = bounds s h in
-    omega (arith, b .pending-small, (c .before .pre .1 .1 .1))
+    omega (arith, b .pending-small, (c .before .pre .1 .1 .1 .0))
 
 returns : tie.Need-returns
 returns c =
     let s = c .before .args .s in
     let h = held s (c .before .pre .0) in
-    tail-step s h (c .before .pre .1 .0) (c .before .pre .1 .1 .0) (c .before .pre .1 .1 .1)
+    tail-step s h (c .before .pre .1 .0) (c .before .pre .1 .1 .0) (c .before .pre .1 .1 .1 .0) (c .before .pre .1 .1 .1 .1)
 
 pub tail-down-spec : {M : Type 1} → statement M
 tail-down-spec =

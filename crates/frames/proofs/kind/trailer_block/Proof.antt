@@ -69,7 +69,7 @@ tail-down-requires c κs =
     let still = at-start .pre .1 .0 in
     let last = at-start .pre .1 .1 .1 in
     let any = at-start .pre .1 .1 .0 in
-    (w .together, (still, (any, omega (arith, last))))
+    (w .together, (still, (any, (omega (arith, last), w .calm))))
 
 returns : tie.Need-returns
 unfolding afterKind

@@ -1,7 +1,8 @@
 -- `record::hold::order_holds` meets its contract.
 -- Assumes nothing.
 use borrow.Author.Needs.{needs}
-use borrow.Author.Tests.{le-leb, lt-leb, eq-eqb, ne-eqb}
+use borrow.Author.Tests.{le-leb, lt-leb}
+use Rattle.card.proofs.Test.{said-no, said-yes}
 use Rattle.record.specs.Holds.{orderHolds}
 use Rattle.record.proofs.hold.order_holds.Statement.{statement}
 use Rattle.record.proofs.hold.order_holds.Tie as tie
@@ -14,5 +15,7 @@ order-holds-spec =
     (λ c. simp (lt-leb _ _ (c .if1 .taken)))
     (λ c κs. search needs)
     (λ c. simp (le-leb _ _ (c .before .before .if1 .left), ← c .before .tail-for .ensures, lt-leb _ _ (c .if2 .taken)))
-    (λ c. simp (le-leb _ _ (c .before .before .before .if1 .left), ← c .before .before .tail-for .ensures, le-leb _ _ (c .before .if2 .left), eq-eqb _ _ (c .if3 .taken)))
-    (λ c. simp (le-leb _ _ (c .before .before .before .if1 .left), ← c .before .before .tail-for .ensures, le-leb _ _ (c .before .if2 .left), ne-eqb _ _ (c .if3 .left))))
+    (λ c κs. search needs)
+    (λ c. simp (le-leb _ _ (c .before .before .before .before .if1 .left), ← c .before .before .before .tail-for .ensures, le-leb _ _ (c .before .before .if2 .left), said-no (c .before .tail-holds .ensures) (c .if3 .taken)))
+    (λ c κs. search needs)
+    (λ c. rw (le-leb _ _ (c .before .before .before .before .before .if1 .left), ← c .before .before .before .before .tail-for .ensures, le-leb _ _ (c .before .before .before .if2 .left), said-yes (c .before .before .tail-holds .ensures) (c .before .if3 .left)) (c .phase-holds .ensures)))
