@@ -57,7 +57,7 @@ static void flush(const controller *c)
         fail("the image was not flushed", strerror(errno));
 }
 
-/* Durable before it is used; a cut before that is a card to format again. */
+/* The header goes last, behind a flush: start refuses a new file without it. */
 static void format(controller *c, const char *image)
 {
     const uint32_t range[2] = {FIRST, TAGS};
@@ -65,7 +65,9 @@ static void format(controller *c, const char *image)
     c->file = open(image, O_WRONLY | O_CREAT | O_EXCL, 0666);
     if (c->file < 0)
         fail(image, strerror(errno));
-    put(c, c->card, sizeof c->card, 0);
+    put(c, c->card + LANE_BLOCK, sizeof c->card - LANE_BLOCK, 1);
+    flush(c);
+    put(c, c->card, LANE_BLOCK, 0);
     flush(c);
 }
 
@@ -103,17 +105,21 @@ static void report(lane_report r, const char *how)
     printf("%c %zu %s\n", " PDTMHF"[r.kind], r.number, how);
 }
 
-/* Dies as in a power cut: block 0 is still old, any other has no sense in its first half. A flush is not made. */
+/* Dies as in a power cut: a flush is not made, block 0 is still old, any other block has no sense in its first half. */
 static void cut(const controller *c, lane_report r)
 {
-    int whole = r.kind == LANE_H || r.kind == LANE_F;
-    if (!whole) {
+    const char *how = "torn";
+    if (r.kind == LANE_F) {
+        how = "not flushed";
+    } else if (r.kind == LANE_H) {
+        how = "not written";
+    } else {
         uint8_t torn[LANE_BLOCK];
         memcpy(torn, c->card + r.number * LANE_BLOCK, LANE_BLOCK);
         memset(torn, 0xFF, LANE_BLOCK / 2);
         put(c, torn, LANE_BLOCK, r.number);
     }
-    report(r, r.kind == LANE_F ? "not flushed" : whole ? "not written" : "torn");
+    report(r, how);
     fflush(stdout);
     kill(getpid(), SIGKILL);
 }

@@ -12,15 +12,20 @@
  * - The record is kept and lent; its fields are neither read nor changed. Their form is free.
  * - Between calls, card and memory stay as the last call left them.
  *
- * What must be durable, where the card is a copy of a device's blocks:
- * - After lane_format the whole card, before it is used: block 0 cleared first and written last, so
- *   that lane_start refuses a card whose format was cut.
- * - After lane_page_out and lane_advance the block that they report. A snapshot is kept once H is
- *   durable.
- * - Each before the next lane_page_out or lane_advance: by a device opened with O_DSYNC, or by
- *   fdatasync. If the device fails, the copy is ahead of it: read the device again, and start.
+ * What the caller owes a device, where the card is a copy of its blocks:
+ * - P, D, T, M and H, from lane_page_out or lane_advance: the block reported is written to the
+ *   device, with no flush. The drive may keep it in its cache and put writes down in any order.
+ * - F, from lane_advance: the device is flushed (fdatasync) before the next call, and NO BLOCK IS
+ *   WRITTEN. F REPORTS BLOCK 0: LOOK AT THE KIND FIRST. A PROGRAM THAT WRITES "THE BLOCK REPORTED"
+ *   THERE REWRITES THE HEADER AND FLUSHES NOTHING.
+ * - A snapshot is safe once the F AFTER its H is done. From H until then a cut may find it or not.
+ * - After lane_format the whole card, in three steps with a flush (fdatasync) after each: block 0
+ *   cleared, all other blocks, block 0. So lane_start refuses a card whose format was cut.
+ * - If a write or a flush fails, the copy is ahead of the device: read it again, and start.
  * - No other block is written, not even with the bytes it has: a cut could tear it.
- * The device owes that a cut harms only the block being written, and leaves block 0 old or new.
+ * What the device owes at a cut: of the blocks written since the last flush any are down, in any
+ * order, the last one torn; block 0 is whole, old or new; every other block stands as it was, and a
+ * flush that is done has put down all that was written before it.
  * A shared mapping of the device does not do: the system may write it back during a call, block 0
  * half made, and puts down whole memory pages. So lend a buffer, and write the block.
  */
@@ -66,7 +71,7 @@ enum lane_refusal {
     LANE_FLUSH_DUE = 28,   /* the flush after a header write or a start is due */
 };
 
-/* What an advance or a page-out wrote. */
+/* What an advance or a page-out did. */
 enum lane_kind {
     LANE_REFUSED = 0, /* nothing */
     LANE_P = 1,       /* the oldest waiting frame, to the area */
@@ -74,7 +79,7 @@ enum lane_kind {
     LANE_T = 3,       /* its trailer */
     LANE_M = 4,       /* a frame of the committed generation, copied to its home block */
     LANE_H = 5,       /* the header: the snapshot is committed once it is flushed */
-    LANE_F = 6,       /* a flush, which writes no block: flush the device before the next call */
+    LANE_F = 6,       /* no block: FLUSH the device before the next call, and write nothing */
 };
 
 typedef struct {
@@ -125,7 +130,8 @@ typedef struct {
 } lane_present;
 LANE_SIZE(lane_present, 8);
 
-/* What lane_page_out and lane_advance answer: the kind and the block written, or LANE_REFUSED and the refusal. */
+/* What lane_page_out and lane_advance answer: the kind and the block written (0 for LANE_F, which
+   writes none), or LANE_REFUSED and the refusal. */
 typedef struct {
     uint32_t kind;
     size_t number;
@@ -159,15 +165,17 @@ uint32_t lane_write(lane_store *s, const uint8_t *card, size_t card_len, uint8_t
 uint32_t lane_rescind(lane_store *s, const uint8_t *card, size_t card_len, uint8_t *memory,
                       size_t memory_len, uint32_t oid, uint32_t count);
 
-/* Marks all pages and counts as they are, to be kept once an advance has written the header. */
+/* Marks all pages and counts as they are, to be kept once their header is written and flushed. */
 uint32_t lane_snapshot(lane_store *s, const uint8_t *card, size_t card_len, const uint8_t *memory,
                        size_t memory_len);
 
-/* Writes the oldest waiting frame to the area, which frees its memory frame; its kind is LANE_P. */
+/* Writes the oldest waiting frame to the area, which frees its memory frame; its kind is LANE_P.
+   Refused LANE_FLUSH_DUE until the flush after a start or a header write is made. */
 lane_report lane_page_out(lane_store *s, uint8_t *card, size_t card_len, const uint8_t *memory,
                           size_t memory_len);
 
-/* Makes the next block write of a commit or of migration. */
+/* Makes the next block write of a commit or of migration, or asks for the flush that comes before it:
+   just before every LANE_H, just after it, and first of all after a start. */
 lane_report lane_advance(lane_store *s, uint8_t *card, size_t card_len, const uint8_t *memory,
                          size_t memory_len);
 

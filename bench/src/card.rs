@@ -3,11 +3,8 @@
 use crate::controller::card_length;
 use lane::BLOCK;
 use std::fs::File;
-use std::os::unix::fs::{FileExt, OpenOptionsExt};
+use std::os::unix::fs::FileExt;
 use std::path::{Path, PathBuf};
-
-/// Linux's flag for a file whose writes return once they are durable.
-const O_DSYNC: i32 = 0o10000;
 
 /// A new file of a card's length.
 pub fn create(path: &Path) -> File {
@@ -21,16 +18,7 @@ pub fn create(path: &Path) -> File {
     file
 }
 
-fn open_synced(path: &Path) -> File {
-    File::options()
-        .read(true)
-        .write(true)
-        .custom_flags(O_DSYNC)
-        .open(path)
-        .expect("the card's file")
-}
-
-/// A file that the blocks of a card are written to, each of them synced.
+/// A file that the blocks of a card are written to; they are durable once it is synced.
 pub struct Synced {
     path: PathBuf,
     file: File,
@@ -39,10 +27,9 @@ pub struct Synced {
 
 impl Synced {
     pub fn create(path: &Path) -> Synced {
-        create(path);
         Synced {
             path: path.to_path_buf(),
-            file: open_synced(path),
+            file: create(path),
             syncs: 0,
         }
     }
@@ -52,12 +39,20 @@ impl Synced {
         self.file
             .write_all_at(&card[at..at + BLOCK], at as u64)
             .expect("a block on the file");
+    }
+
+    pub fn sync(&mut self) {
+        self.file.sync_data().expect("the file synced");
         self.syncs += 1;
     }
 
     /// Opens the file again and reads the whole card.
     pub fn read(&mut self, card: &mut [u8]) {
-        self.file = open_synced(&self.path);
+        self.file = File::options()
+            .read(true)
+            .write(true)
+            .open(&self.path)
+            .expect("the card's file");
         self.file
             .read_exact_at(card, 0)
             .expect("a card on the file");

@@ -3,11 +3,11 @@
 use crate::clock::{median, Clock};
 use crate::machine::bytes_written;
 use crate::store::Page;
-use crate::subject::Subject;
+use crate::subject::{Subject, STRIDE};
 
 /// Entries of a directory block.
 const ENTRIES: usize = 64;
-const TRAILER_AND_HEADER: usize = 2;
+const TRAILER: usize = 1;
 
 #[derive(Clone, Copy)]
 pub struct Plan {
@@ -56,13 +56,16 @@ pub fn nanoseconds(clock: &Clock, subject: &mut Subject, plan: Plan, commits: us
     })
 }
 
-/// What a lane store's commit takes of the device: as many blocks as it writes, written alone.
+/// What a lane store's commit takes of the device: as many blocks as it writes, and its syncs,
+/// alone. Those of the way home are always written, since the next commit syncs them.
 pub fn device(clock: &Clock, subject: &mut Subject, plan: Plan, samples: usize) -> Option<f64> {
-    let homes = if plan.home { plan.pages } else { 0 };
-    let blocks = plan.pages + plan.pages.div_ceil(ENTRIES) + TRAILER_AND_HEADER + homes;
+    let area = plan.pages + plan.pages.div_ceil(ENTRIES) + TRAILER;
+    let apart = if plan.neighbours { 1 } else { STRIDE };
     let lane = subject.store.lane()?;
     Some(median(samples, |_| {
-        clock.time(|| lane.write_again(blocks)).0
+        let (commit, ()) = clock.time(|| lane.commit_again(area));
+        let (home, ()) = clock.time(|| lane.home_again(plan.pages, apart));
+        commit + if plan.home { home } else { 0.0 }
     }))
 }
 

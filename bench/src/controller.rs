@@ -1,5 +1,5 @@
 //! A lane store as a program keeps it: its card is mapped, or each block that is written goes to a
-//! file and is synced.
+//! file, which is synced at each flush.
 
 use crate::card::Synced;
 use crate::store::{Page, PageStore};
@@ -19,6 +19,7 @@ pub const UNWRITTEN: u32 = 32 * RUN;
 /// Refusals that a program goes by.
 const MEMORY_FULL: u32 = 14;
 const NOTHING_DUE: u32 = 20;
+const FLUSH_DUE: u32 = 28;
 
 /// Done, or the number of the question that was answered "no".
 pub type Answer = Result<(), u32>;
@@ -32,7 +33,7 @@ pub trait Calls {
     fn write(&mut self, oid: u32, page: &Page) -> Answer;
     fn rescind(&mut self, oid: u32) -> Answer;
     fn snapshot(&mut self) -> Answer;
-    /// Done, it gives the block it wrote; an advance, its kind too.
+    /// Done, it gives the block it wrote; an advance, its kind too, and block 0 for a flush.
     fn page_out(&mut self) -> Result<usize, u32>;
     fn advance(&mut self) -> Result<(Kind, usize), u32>;
 }
@@ -58,6 +59,8 @@ impl Controller {
         let mut c = Controller { calls, synced };
         let blocks = card_length() / BLOCK;
         (0..blocks).for_each(|block| c.write_through(block));
+        // The flush after the start: the format is durable.
+        c.bring_home();
         // A batch that needs no page-out: room is left for the pots that it changes.
         for batch in pages.chunks(MEMORY / BLOCK - 4) {
             c.change(batch);
@@ -73,11 +76,11 @@ impl Controller {
         }
     }
 
-    /// The next block write of a commit or of migration, if one is due.
+    /// The next block write or flush, if one is due.
     pub fn advance(&mut self) -> Option<Kind> {
         match self.calls.advance() {
             Ok((kind, block)) => {
-                self.write_through(block);
+                self.carry_out(kind, block);
                 Some(kind)
             }
             Err(NOTHING_DUE) => None,
@@ -85,19 +88,50 @@ impl Controller {
         }
     }
 
-    /// Syncs made so far: one for each block written, none where nothing is synced.
+    /// Syncs made so far: one for each flush, none where nothing is synced.
     pub fn syncs(&self) -> u64 {
         self.synced.as_ref().map_or(0, Synced::syncs)
     }
 
-    /// Writes so many blocks of the area as they are, each of them synced.
-    pub fn write_again(&mut self, blocks: usize) {
+    /// Writes so many blocks of the area as they are, then the header, synced as in a commit.
+    pub fn commit_again(&mut self, blocks: usize) {
         (1..=blocks).for_each(|block| self.write_through(block));
+        self.sync();
+        self.write_through(0);
+        self.sync();
+    }
+
+    /// Writes so many home blocks as they are, so far apart; the next commit syncs them.
+    pub fn home_again(&mut self, blocks: usize, apart: usize) {
+        (1..=blocks).for_each(|i| self.write_through(AREA + i * apart));
+    }
+
+    /// Does on the file what an advance reports. A flush has no block of its own.
+    fn carry_out(&mut self, kind: Kind, block: usize) {
+        match kind {
+            Kind::F => self.sync(),
+            _ => self.write_through(block),
+        }
     }
 
     fn write_through(&mut self, block: usize) {
         if let Some(file) = &mut self.synced {
             file.put(self.calls.card(), block);
+        }
+    }
+
+    fn sync(&mut self) {
+        if let Some(file) = &mut self.synced {
+            file.sync();
+        }
+    }
+
+    /// After a start or a header write its flush comes first, and this makes only that.
+    fn page_out(&mut self) {
+        match self.calls.page_out() {
+            Ok(block) => self.write_through(block),
+            Err(FLUSH_DUE) => assert_eq!(self.advance(), Some(Kind::F), "a flush is due"),
+            Err(no) => panic!("page-out is refused {no}"),
         }
     }
 }
@@ -113,14 +147,15 @@ impl PageStore for Controller {
     fn write(&mut self, oid: u32, page: &Page) {
         while let Err(no) = self.calls.write(oid, page) {
             assert_eq!(no, MEMORY_FULL, "write");
-            let block = self.calls.page_out().expect("page-out");
-            self.write_through(block);
+            self.page_out();
         }
     }
 
+    /// Durable at the flush after the header write.
     fn commit(&mut self) {
         self.calls.snapshot().expect("snapshot");
         while self.advance().expect("a header to write") != Kind::H {}
+        assert_eq!(self.advance(), Some(Kind::F), "a flush after the header");
     }
 
     fn abort(&mut self) {

@@ -83,7 +83,7 @@ impl Calls for Proved {
     fn page_out(&mut self) -> Result<usize, u32> {
         self.store
             .page_out(&mut self.card, &self.memory)
-            .map(Advance::block)
+            .map(|report| report.block().expect("a block"))
             .map_err(Refusal::number)
     }
 
@@ -95,6 +95,7 @@ impl Calls for Proved {
             Advance::T(block) => (Kind::T, block),
             Advance::M(block) => (Kind::M, block),
             Advance::H(block) => (Kind::H, block),
+            Advance::F(block) => (Kind::F, block),
         })
     }
 }

@@ -192,7 +192,7 @@ impl Report {
     fn advances(&mut self) {
         let n = self.pace.samples;
         for pages in [1, 32, 251] {
-            for kind in [Kind::P, Kind::D, Kind::T, Kind::H, Kind::M] {
+            for kind in [Kind::P, Kind::D, Kind::T, Kind::F, Kind::H, Kind::M] {
                 let label = format!("advance {kind:?}, commit of {pages}");
                 self.row(MAPPED, &label, |c, s| calls::advance(c, s, kind, pages, n));
             }
@@ -204,7 +204,7 @@ impl Report {
         table::heading("ns a commit");
         for plan in plans() {
             let floor = self.floor * plan.pages as f64;
-            for (columns, how) in [(MAPPED, "in memory"), (SYNCED, "each block synced")] {
+            for (columns, how) in [(MAPPED, "in memory"), (SYNCED, "synced at F")] {
                 let cells = self.lowest(columns, |c, s| Some(commits::nanoseconds(c, s, plan, n)));
                 table::nanoseconds(&format!("{}, {how}", label(plan)), &cells, floor);
             }
@@ -278,6 +278,6 @@ fn label(plan: Plan) -> String {
         (n, false) => format!("{n} pages"),
         (n, true) => format!("{n} neighbours"),
     };
-    let until = if plan.home { "to 20" } else { "to H" };
+    let until = if plan.home { "to 20" } else { "to F" };
     format!("{pages}, {until}")
 }

@@ -5,7 +5,7 @@ use crate::store::{Page, PageStore};
 use lane::BLOCK;
 
 /// Coprime to the number of pages, so that pages this far apart come round to all of them.
-const STRIDE: usize = 71;
+pub const STRIDE: usize = 71;
 
 pub struct Subject {
     pub store: Box<dyn PageStore>,

@@ -1,4 +1,5 @@
--- What a call or a cut in it leaves of what a world may hold: a drive, and a record that persists on it or that of zeros.
+-- What a call or a cut in it leaves of what a world may hold: a drive, and a record that persists on it or that of
+-- zeros.
 -- Assumes nothing.
 use Prim.Native.Nat.{ℕ, zero, suc}
 use lib.ListN.{length}

@@ -22,7 +22,8 @@ use Rattle.recovery.specs.State.{readFrame}
 use Rattle.recovery.specs.Step.{kindDrive, startState}
 use Rattle.recovery.specs.Write.{BlockWrite, Drive, seen, settled, written, Cut, ReachedIs}
 
--- the drive, what is held between calls (nothing before the first start and after a cut), the book of frames, and what was kept before a header write that is not flushed
+-- the drive, what is held between calls (nothing before the first start and after a cut), the book of frames, and
+-- what was kept before a header write that is not flushed
 pub record FrameWorld : Type 0 where
   pub drive : Drive
   pub held : Option Lent
@@ -82,8 +83,9 @@ Asked snapshot l = Unit {0}
 Asked pageOut l = Unit {0}
 Asked advance l = Unit {0}
 
--- a call, done or refused, by its own promise; a cut in a call, whose write is then one of those that are not flushed; a cut between calls. After a cut nothing is unflushed, and the book is
--- told whether the header write being made or not flushed, if any, reached the card.
+-- a call, done or refused, by its own promise; a cut in a call, whose write is then one of those that are not
+-- flushed; a cut between calls. After a cut nothing is unflushed, and the book is told whether the header write being
+-- made or not flushed, if any, reached the card.
 pub data FrameStep : FrameWorld → FrameWorld → Type 0 where
   called : (c : FrameCall) (w : FrameWorld) (l l′ : Lent) (a : FrameAnswer) → lentTo c w ≡ some l → Asked c l → FrameKept c l a l′
       → FrameStep w (record { drive = driveTold a (outcome c l .write) (w .drive); held = some l′; book = told c a (w .book); before = beforeTold a (w .book) (w .before) })

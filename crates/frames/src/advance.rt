@@ -1,5 +1,6 @@
-// Advance: one block write or a flush. With a snapshot pending its waiting frames (P), directory (D), trailer (T), what is left of the committed generation's migration
-// (M), a flush (F), header (H); with none pending only M. Just after a header write and after a start a flush comes before all else.
+// Advance: one block write or a flush. With a snapshot pending its waiting frames (P), directory (D), trailer (T),
+// what is left of the committed generation's migration (M), a flush (F), header (H); with none pending only M. Just
+// after a header write and after a start a flush comes before all else.
 use super::answer::Advance;
 use super::answer::Advanced;
 use super::kind;

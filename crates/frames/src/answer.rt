@@ -16,7 +16,8 @@ pub struct Wrote {
     pub store: Store,
 }
 
-// What advance or page-out wrote: a waiting page, a directory block, the trailer, a migrated frame, the header, each with its block; a flush, with block 0. Or the refusal's number.
+// What advance or page-out wrote: a waiting page, a directory block, the trailer, a migrated frame, the header, each
+// with its block; a flush, with block 0. Or the refusal's number.
 pub enum Advance {
     P(usize),
     D(usize),

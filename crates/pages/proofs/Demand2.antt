@@ -29,7 +29,7 @@ use Rattle.record.specs.Meaning.{zeroStore}
 use Rattle.recovery.proofs.Follows.{Stored, Follows}
 use Rattle.recovery.proofs.FrameTheorem.{accepted-stored, stored-long}
 use Rattle.recovery.specs.Book.{FrameBook}
-use Rattle.recovery.specs.State.{empty, readFrame}
+use Rattle.recovery.specs.State.{State, empty, readFrame}
 use Rattle.recovery.specs.Step.{startState}
 use Rattle.recovery.specs.Write.{BlockWrite, putDown}
 use Rattle.frames.specs.Promise as frames
@@ -79,6 +79,7 @@ module _ (rs : List Range) (blocks area : ℕ) (full : blocks ≡ 1 + area + all
             follows = subst (λ (fb : FrameBook). Follows blocks area rs (meaningOf l′) (l′ .card) fb) (g .frames-are)
                 (done-follows blocks area rs l (t .frames) (frameCall c l) (held .0) (g .asked) l′ _ low (frames-asked l c e));
             ledger-is = g .ledger-is ∙ ap blank (sym (p .meaning e));
+            phase-is = g .phase-is ∙ ap (λ (s : State). s .phase) (sym (p .meaning e));
             changed-is = g .changed-is ∙ ap someChange (sym (p .meaning e));
             marked-is = g .marked-is ∙ ap nonePending (sym (p .meaning e));
             rows-are = g .rows-are;
@@ -156,6 +157,7 @@ module _ (m card : List ℕ) (l₀ : Lent) (p : Kept (start m) (lent zeroStore m
     passes = done-common blocks area rs was book (frames.start m) (refl, stored) tt l₀ _ low asked;
     follows = follows;
     ledger-is = ap blank (sym state-is);
+    phase-is = unfold startState in (ap (λ (s : State). s .phase) (sym state-is));
     changed-is = unfold startState empty in (ap someChange (sym state-is));
     marked-is = unfold startState empty in (ap nonePending (sym state-is));
     rows-are = λ o q e. unfold startState atPlace in (rw e);

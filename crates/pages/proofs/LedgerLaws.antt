@@ -16,7 +16,7 @@ use Rattle.card.specs.Ring.{ringAt}
 use Rattle.card.specs.declared.range.Address.{Address}
 use Rattle.pages.proofs.BlankLaws.{blankFrames, blank-waits, blank-room, blank-due, blank-advanceAsks}
 use Rattle.pages.specs.Page.{flagged, writeFrames, rescindFrames}
-use Rattle.pages.specs.Plain.{Row, Plain, blankGeneration, blank, touched, writeTouches, rescindTouches, isNone, plainAsks, plainOut, plainKind, plainPageOut}
+use Rattle.pages.specs.Plain.{Row, Plain, blankGeneration, blank, touched, writeTouches, rescindTouches, isNone, phaseAfter, ledgerOf, plainAsks, plainOut, plainKind, plainPageOut}
 use Rattle.pages.specs.Promise.{pageOut}
 use Rattle.recovery.proofs.Follows.{Follows}
 use Rattle.recovery.proofs.FollowsStep.{some-waits}
@@ -26,8 +26,8 @@ use Rattle.recovery.specs.Book.{FrameBook, markedOr, bookWrote}
 use Rattle.recovery.specs.Contents.{Contents, FrameBytes}
 use Rattle.recovery.specs.Directory.{Note}
 use Rattle.recovery.specs.Questions.{roomAsks, pageOutAsks, advanceAsks}
-use Rattle.recovery.specs.State.{Generation, State, entryCount, directoryOf, empty}
-use Rattle.recovery.specs.Step.{pendingTo, currentTo, changeFrame, changeFrames, Kind, page, directory, trailer, migration, header, flush, outWrite, outOf, tailBytes, trailerBlockNo, nextMigration, kindWrite, afterKind, advanceDue, pageOutWrite, afterPageOut}
+use Rattle.recovery.specs.State.{Generation, State, entryCount, directoryOf, empty, Phase, writing, flushed, owed}
+use Rattle.recovery.specs.Step.{pendingTo, currentTo, changeFrame, changeFrames, Kind, page, directory, trailer, migration, header, flush, outWrite, outOf, tailBytes, trailerBlockNo, nextMigration, kindWrite, afterFlush, afterKind, advanceDue, pageOutWrite, afterPageOut}
 use Rattle.recovery.specs.Sums.{notedIn, remainingWrites, firstOf, roomSums, advanceSums}
 
 -- ---- the frames that a call changes, by their numbers
@@ -105,25 +105,52 @@ kind-marked migration s b e = e
 kind-marked header s b e = refl
 kind-marked flush s b e = e
 
+-- the machine's own account of flushes is the state's
+pub kind-phase : (k : Kind) (s : State) → phaseAfter k (s .phase) ≡ afterKind k s .phase
+unfolding afterKind phaseAfter
+kind-phase page s = refl
+kind-phase directory s = refl
+kind-phase trailer s = refl
+kind-phase migration s = refl
+kind-phase header s = refl
+kind-phase flush s = go (s .phase)
+  where
+    go : (p : Phase) → phaseAfter flush p ≡ afterFlush p
+    go writing = refl
+    go flushed = refl
+    go owed = refl
+
+pub out-phase : (s : State) → afterPageOut s .phase ≡ s .phase
+unfolding afterPageOut
+out-phase s = go (ltb 0 (length (s .pending .waiting)))
+  where
+    go : (t : Bool) → cond t (pendingTo (outOf (s .pending)) (s .tailDown) s) (currentTo (outOf (s .current)) s) .phase ≡ s .phase
+    go true = refl
+    go false = refl
+
 -- ---- a state, and the machine's ledger beside it
 
 some-of : (a b : ℕ) → ltb 0 (a + b) ≡ (ltb 0 a || ltb 0 b)
 some-of zero b = let e : 0 + b ≡ b = omega arith in rw e
 some-of (suc a) b = rw (lt-ltb 0 (suc a + b) (omega arith), lt-ltb 0 (suc a) (omega arith))
 
-module _ (s : State) (t : Plain) (ledger-is : t .ledger ≡ blank s) where
+module _ (s : State) (t : Plain) (ledger-is : t .ledger ≡ blank s) (phase-is : t .phase ≡ s .phase) where
+  account-is : ledgerOf t ≡ blank s
+  unfolding blank
+  account-is = rw (ledger-is, phase-is)
+
   pub room-is : (ws touches : List FrameBytes) → blankFrames ws ≡ touches → Distinct touches → roomAsks ws s ≡ roomSums touches (t .ledger)
   room-is ws touches e d = rw ledger-is (sym (blank-room s ws) ∙ (rw e (same-room touches (blank s) d)))
 
-  pub due-is : firstOf (remainingWrites (t .ledger)) ≡ advanceDue s
-  due-is = rw ledger-is (same-due (blank s) ∙ blank-due s)
+  pub due-is : firstOf (remainingWrites (ledgerOf t)) ≡ advanceDue s
+  due-is = rw account-is (same-due (blank s) ∙ blank-due s)
 
-  pub advance-is : advanceAsks s ≡ advanceSums (t .ledger)
-  advance-is = rw ledger-is (sym (blank-advanceAsks s) ∙ same-advance (blank s))
+  pub advance-is : advanceAsks s ≡ advanceSums (ledgerOf t)
+  advance-is = rw account-is (sym (blank-advanceAsks s) ∙ same-advance (blank s))
 
   pub waiting-is : pageOutAsks s ≡ plainAsks pageOut t
   unfolding pageOutAsks plainAsks blank
-  waiting-is = rw (ledger-is, blank-waits (s .pending), blank-waits (s .current), some-of (length (s .pending .waiting)) (length (s .current .waiting)))
+  waiting-is = rw (phase-is, ledger-is, blank-waits (s .pending), blank-waits (s .current), some-of (length (s .pending .waiting)) (length (s .current .waiting)))
 
   -- ---- with its card, and the machine's frames: the block that is written
 

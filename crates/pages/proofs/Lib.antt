@@ -13,3 +13,4 @@ pub mod Demand2
 pub mod BookLaws
 pub mod RunLaws
 pub mod Demand3
+pub mod Adversary

@@ -23,7 +23,7 @@ use Rattle.frames.proofs.Run.{told, Asked}
 use Rattle.frames.specs.Promise.{Lent, meaningOf, common, FrameCall}
 use Rattle.pages.proofs.AnswerLaws.{Later, ownAsks, found-place, write-passed, rescind-passed}
 use Rattle.pages.proofs.BlankLaws.{blankFrames, blank-change, blank-snapshot, blank-pageOut, blank-kind}
-use Rattle.pages.proofs.LedgerLaws.{write-touches, rescind-touches, touches-apart, nonePending, someChange, change-notes, out-keeps, kind-current, kind-marked, room-is, due-is, advance-is, waiting-is, out-is, kind-is}
+use Rattle.pages.proofs.LedgerLaws.{write-touches, rescind-touches, touches-apart, nonePending, someChange, change-notes, out-keeps, kind-current, kind-marked, kind-phase, out-phase, room-is, due-is, advance-is, waiting-is, out-is, kind-is}
 use Rattle.pages.proofs.Represents.{write-whole, rescind-whole, write-same, rescind-same, AsTable, Long, changes-long, in-p, updated}
 use Rattle.pages.proofs.RowLaws.{rescind-row, rescind-other, write-row, write-other}
 use Rattle.pages.specs.Book.{update, written, rescinded}
@@ -65,6 +65,7 @@ module _ (rs : List Range) (blocks area : ℕ) (full : blocks ≡ 1 + area + all
     pub passes : firstNo (common l) ≡ 0
     pub follows : Follows blocks area rs (meaningOf l) (l .card) (t .frames)
     pub ledger-is : t .ledger ≡ blank (meaningOf l)
+    pub phase-is : t .phase ≡ meaningOf l .phase
     pub changed-is : t .changed ≡ someChange (meaningOf l)
     pub marked-is : isNone (t .frames .marked) ≡ nonePending (meaningOf l)
     pub rows-are : SameRows (t .frames .present) (t .rows)
@@ -78,6 +79,7 @@ module _ (rs : List Range) (blocks area : ℕ) (full : blocks ≡ 1 + area + all
       pub write-is : frames.doneWrite c l ≡ d .write
       pub frames-are : told c (frames.doneAnswer c l) (t .frames) ≡ d .next .frames
       pub ledger-is : d .next .ledger ≡ blank (frames.after c l)
+      pub phase-is : d .next .phase ≡ frames.after c l .phase
       pub changed-is : d .next .changed ≡ someChange (frames.after c l)
       pub marked-is : isNone (d .next .frames .marked) ≡ nonePending (frames.after c l)
       pub rows-are : SameRows (d .next .frames .present) (d .next .rows)
@@ -91,6 +93,7 @@ module _ (rs : List Range) (blocks area : ℕ) (full : blocks ≡ 1 + area + all
       write-is = refl;
       frames-are = refl;
       ledger-is = b .ledger-is;
+      phase-is = b .phase-is;
       changed-is = b .changed-is;
       marked-is = b .marked-is;
       rows-are = b .rows-are;
@@ -100,7 +103,7 @@ module _ (rs : List Range) (blocks area : ℕ) (full : blocks ≡ 1 + area + all
     -- frames of one page change, and its row
     changed : (ws touches : List FrameBytes) (o : ℕ) (x : Row) → blankFrames ws ≡ touches → All (WholeFrame area blocks) ws → 0 < entryCount (changeFrames ws (meaningOf l .current))
         → SameRows (applyChanges ws (t .frames .present)) (update o x (t .rows))
-        → Agrees (frames.change ws) done (answers done (record { rows = update o x (t .rows); changed = true; ledger = afterChange touches (t .ledger); frames = bookChange ws (t .frames) }))
+        → Agrees (frames.change ws) done (answers done (record { rows = update o x (t .rows); changed = true; phase = t .phase; ledger = afterChange touches (t .ledger); frames = bookChange ws (t .frames) }))
     unfolding frames.doneWrite frames.doneAnswer frames.after told
     changed ws touches o x e whole noted rows = record {
       asked = rw (b .follows .area-is, b .follows .blocks-is) whole;
@@ -108,6 +111,7 @@ module _ (rs : List Range) (blocks area : ℕ) (full : blocks ≡ 1 + area + all
       write-is = refl;
       frames-are = refl;
       ledger-is = rw (b .ledger-is, ← e) (blank-change (meaningOf l) ws);
+      phase-is = unfold afterChange in (b .phase-is);
       changed-is = unfold afterChange in (sym (lt-ltb 0 _ noted));
       marked-is = unfold afterChange in (b .marked-is);
       rows-are = rows;
@@ -167,10 +171,10 @@ module _ (rs : List Range) (blocks area : ℕ) (full : blocks ≡ 1 + area + all
 
       write-room : (at : ℕ) (new : List ℕ) → roomAsks (writeChanges l at new p) (meaningOf l) ≡ roomSums (writeTouches (t .rows o) new p) (t .ledger)
       unfolding writeChanges writeTouches
-      write-room at new = rw (write-frames at new) (room-is (meaningOf l) t (b .ledger-is) _ _ (row-touches at new (eqb (length new) 0)) (touches-apart (t .rows o) new p (omega (arith, inside))))
+      write-room at new = rw (write-frames at new) (room-is (meaningOf l) t (b .ledger-is) (b .phase-is) _ _ (row-touches at new (eqb (length new) 0)) (touches-apart (t .rows o) new p (omega (arith, inside))))
 
       rescind-room : roomAsks (rescindChanges l p) (meaningOf l) ≡ roomSums (rescindTouches p) (t .ledger)
-      rescind-room = rw rescind-frames (room-is (meaningOf l) t (b .ledger-is) _ _ (rescind-touches present p) (tt, tt))
+      rescind-room = rw rescind-frames (room-is (meaningOf l) t (b .ledger-is) (b .phase-is) _ _ (rescind-touches present p) (tt, tt))
 
       -- ---- a write and a rescind of it
 
@@ -199,6 +203,7 @@ module _ (rs : List Range) (blocks area : ℕ) (full : blocks ≡ 1 + area + all
           go : (nothing : Bool) → Agrees (frames.change (cond nothing [] (writeFrames present p at new))) done (answers done (cond nothing t (record {
             rows = update o (record { page = written at new (t .rows o .page); zero = false }) (t .rows);
             changed = true;
+            phase = t .phase;
             ledger = afterChange (cond nothing [] (touched (p .page) ∷ cond (t .rows o .zero) (touched (p .pot) ∷ []) [])) (t .ledger);
             frames = bookChange (writeFrames present p at new) (t .frames);
           })))
@@ -225,13 +230,14 @@ module _ (rs : List Range) (blocks area : ℕ) (full : blocks ≡ 1 + area + all
     unfolding frames.doneWrite frames.doneAnswer frames.advanceWrite frames.advanceAnswer frames.after frames.advanced told answered plainAdvance
     advance-agrees none e h = absurd (false≢true h)
     advance-agrees (some k) e h =
-        let block-is : kindWrite k (meaningOf l) (l .card) ≡ plainKind k t = kind-is (meaningOf l) t (b .ledger-is) blocks area rs (l .card) (b .follows) k e in
+        let block-is : kindWrite k (meaningOf l) (l .card) ≡ plainKind k t = kind-is (meaningOf l) t (b .ledger-is) (b .phase-is) blocks area rs (l .card) (b .follows) k e in
         record {
           asked = tt;
           answer-is = ap (λ (w : BlockWrite). wrote k (w .block)) block-is;
           write-is = rw e (ap (kindPut k) block-is);
           frames-are = rw e;
           ledger-is = rw (e, b .ledger-is) (blank-kind (meaningOf l) k);
+          phase-is = rw (e, b .phase-is) (kind-phase k (meaningOf l));
           changed-is = rw (e, kind-current k (meaningOf l)) (b .changed-is);
           marked-is = rw e (kind-marked k (meaningOf l) (t .frames) (b .marked-is));
           rows-are = rw (wrote-present k (t .frames)) (b .rows-are);
@@ -262,8 +268,8 @@ module _ (rs : List Range) (blocks area : ℕ) (full : blocks ≡ 1 + area + all
     same-asks (write o n at new) k = rw (address-is o, plain-address o) (placed-same (locate rs (1 + area) o) _ _ (λ p e. rw (count-same o p e, write-room o p e at new)))
     same-asks (rescind o n) k = rw (address-is o, plain-address o) (placed-same (locate rs (1 + area) o) _ _ (λ p e. rw (count-same o p e, rescind-room o p e)))
     same-asks snapshot k = snapshot-asks
-    same-asks pageOut k = waiting-is (meaningOf l) t (b .ledger-is)
-    same-asks advance k = advance-is (meaningOf l) t (b .ledger-is)
+    same-asks pageOut k = waiting-is (meaningOf l) t (b .ledger-is) (b .phase-is)
+    same-asks advance k = advance-is (meaningOf l) t (b .ledger-is) (b .phase-is)
 
     pub agrees : (c : Call) → Later c → firstNo (ownAsks c l) ≡ 0 → Agrees (frameCall c l) (doneAnswer c l) (plainDone c t)
     unfolding ownAsks asks heldAsks frameCall doneAnswer plainDone atPlace
@@ -288,6 +294,7 @@ module _ (rs : List Range) (blocks area : ℕ) (full : blocks ≡ 1 + area + all
       write-is = unfold frames.doneWrite in refl;
       frames-are = unfold frames.doneAnswer told in refl;
       ledger-is = unfold frames.after in (rw (b .ledger-is) (blank-snapshot (meaningOf l)));
+      phase-is = unfold frames.after afterSnapshot in (b .phase-is);
       changed-is = unfold frames.after afterSnapshot empty in refl;
       marked-is = unfold frames.after in (sym (snapshot-pending own));
       rows-are = b .rows-are;
@@ -295,14 +302,15 @@ module _ (rs : List Range) (blocks area : ℕ) (full : blocks ≡ 1 + area + all
     }
     agrees pageOut k own = record {
       asked = tt;
-      answer-is = unfold answered frames.doneAnswer in (ap (λ (w : BlockWrite). wrote page (w .block)) (out-is (meaningOf l) t (b .ledger-is) blocks area rs (l .card) (b .follows) own));
-      write-is = unfold frames.doneWrite in (ap (λ (w : BlockWrite). some w) (out-is (meaningOf l) t (b .ledger-is) blocks area rs (l .card) (b .follows) own));
+      answer-is = unfold answered frames.doneAnswer in (ap (λ (w : BlockWrite). wrote page (w .block)) (out-is (meaningOf l) t (b .ledger-is) (b .phase-is) blocks area rs (l .card) (b .follows) own));
+      write-is = unfold frames.doneWrite in (ap (λ (w : BlockWrite). some w) (out-is (meaningOf l) t (b .ledger-is) (b .phase-is) blocks area rs (l .card) (b .follows) own));
       frames-are = unfold told in refl;
       ledger-is = unfold frames.after in (rw (b .ledger-is) (blank-pageOut (meaningOf l)));
+      phase-is = unfold frames.after in (b .phase-is ∙ sym (out-phase (meaningOf l)));
       changed-is = unfold frames.after in (b .changed-is ∙ sym (out-keeps (meaningOf l) .1));
       marked-is = unfold frames.after in (b .marked-is ∙ sym (out-keeps (meaningOf l) .0));
       rows-are = b .rows-are;
       long = b .long;
     }
-    agrees advance k own = rw (due-is (meaningOf l) t (b .ledger-is))
+    agrees advance k own = rw (due-is (meaningOf l) t (b .ledger-is) (b .phase-is))
         (unfold frames.doneAnswer in (advance-agrees (advanceDue (meaningOf l)) refl (unfold advanceAsks in (passed-both 19 (given (advanceDue (meaningOf l))) [] own .0))))

@@ -14,14 +14,16 @@ use Rattle.recovery.specs.Step.{page, directory, trailer, migration, header, fl
 abbrev pub Table : Type 0
 Table = ℕ → Page
 
--- what is present; what the last snapshot marked, until a header write reaches the card or a start empties it; what is kept; what was kept before the last header write, while that is not flushed
+-- what is present; what the last snapshot marked, until a header write reaches the card or a start empties it; what
+-- is kept; what was kept before the last header write, while that is not flushed
 pub record Book : Type 0 where
   pub present : Table
   pub marked : Option Table
   pub kept : Table
   pub before : Option Table
 
--- what the book is fed: a call with its answer; a cut in a call and a cut between calls, each with whether the header write being made or not flushed, if any, reached the card
+-- what the book is fed: a call with its answer; a cut in a call and a cut between calls, each with whether the header
+-- write being made or not flushed, if any, reached the card
 pub data Event : Type 0 where
   called : Call → Answer → Event
   cutIn : Call → (reached : Bool) → Event
@@ -45,7 +47,8 @@ written at new x = record { bytes = patch (x .bytes) at new; count = x .count }
 abbrev pub rescinded : Page → Page
 rescinded x = record { bytes = zeros; count = suc (x .count) }
 
--- a header write reached the card: kept becomes marked, unless that is empty; until it is flushed, a cut may still find it old
+-- a header write reached the card: kept becomes marked, unless that is empty; until it is flushed, a cut may still
+-- find it old
 abbrev pub headerReached : Book → Book
 headerReached b = record { present = b .present; marked = none; kept = Option·getD (b .marked) (b .kept); before = some (b .kept) }
 
@@ -53,7 +56,8 @@ headerReached b = record { present = b .present; marked = none; kept = Option·g
 abbrev pub flushedBook : Book → Book
 flushedBook b = record { present = b .present; marked = b .marked; kept = b .kept; before = none }
 
--- A cut. A header write that was not flushed is found, or is found old, and kept is as before it. Without one, the header write being made, if any, has reached the card or not.
+-- A cut. A header write that was not flushed is found, or is found old, and kept is as before it. Without one, the
+-- header write being made, if any, has reached the card or not.
 abbrev pub cutBook : Option Table → Bool → Book → Book
 cutBook none reached b = cond reached (flushedBook (headerReached b)) b
 cutBook (some k) reached b = record { present = b .present; marked = b .marked; kept = cond reached (b .kept) k; before = none }

@@ -1,9 +1,12 @@
 -- DEMAND 3, the statement.
 --
--- Take any card, with any bytes, on which format reports done, and a drive that puts writes down in an order of its own (document 02, #110). Let any list of events follow: the eight calls
--- with any arguments, done or refused by their own promises; a start with any memory, first, after a cut or at any time; a cut between two calls; a cut in a call. The program flushes
--- where advance reports F. A cut leaves any of the writes since the last flush, the one being made included, put down in any order, and at most one of them torn, with any bytes; block 0 is found
--- whole. There is no cut before the first F is done. Any number of each, in any order. Each call is lent what the last one left; nobody else touches drive, record or memory.
+-- Take any card, with any bytes, on which format reports done, and a drive that puts writes down in an order of its
+-- own (document 02, #110). Let any list of events follow: the eight calls with any arguments, done or refused by
+-- their own promises; a start with any memory, first, after a cut or at any time; a cut between two calls; a cut in a
+-- call. The program flushes where advance reports F. A cut leaves any of the writes since the last flush, the one
+-- being made included, put down in any order, and at most one of them torn, with any bytes; block 0 is found whole.
+-- There is no cut before the first F is done. Any number of each, in any order. Each call is lent what the last one
+-- left; nobody else touches drive, record or memory.
 --
 -- Then a start that is lent any 4 to 64 whole frames is done and writes nothing, and for every OID of the ranges key gives the count that the book keeps, and
 -- read with that key the bytes that it keeps: those of the last snapshot whose header write reached the card, or of format.
@@ -23,7 +26,8 @@ use Rattle.pages.specs.Promise.{Call, start, key, read, write, rescind, 
 use Rattle.record.specs.Meaning.{zeroStore}
 use Rattle.recovery.specs.Write.{BlockWrite, Drive, seen, settled, written, Cut, ReachedIs}
 
--- the drive; what is held between calls: nothing before the first start and after a cut; and whether the format is complete, which it is at the first F after it
+-- the drive; what is held between calls: nothing before the first start and after a cut; and whether the format is
+-- complete, which it is at the first F after it
 pub record World : Type 0 where
   pub drive : Drive
   pub held : Option Lent
@@ -44,7 +48,8 @@ lentTo advance w = w .held
 abbrev pub driveAfter : Answer → Option BlockWrite → Drive → Drive
 driveAfter a o v = cond (isFlush a) (settled (seen v)) (written o v)
 
--- a call, done or refused, by its own promise; a cut in a call, whose write is then one of those that are not flushed; a cut between calls. A cut leaves nothing unflushed.
+-- a call, done or refused, by its own promise; a cut in a call, whose write is then one of those that are not
+-- flushed; a cut between calls. A cut leaves nothing unflushed.
 pub data Step : Event → World → World → Type 0 where
   calls : (c : Call) (a : Answer) (w : World) (l l′ : Lent) → lentTo c w ≡ some l → Kept c l a l′
       → Step (called c a) w (record { drive = driveAfter a (outcome c l .write) (w .drive); held = some l′; complete = w .complete || isFlush a })

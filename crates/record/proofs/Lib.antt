@@ -6,3 +6,4 @@ pub mod Held
 pub mod SeatLaws
 pub mod NoneLaws
 pub mod SoundLaws
+pub mod PhaseTable

@@ -43,11 +43,13 @@ tailFor e = cond (eqb e 0) 0 (dirBlocks e + 1)
 unfoldable pub tailHolds : ℕ → ℕ → Bool
 tailHolds tail waiting = cond (eqb tail 0) true (eqb waiting 0)
 
--- The flush just before a header write comes after all that it is to cover: a snapshot is pending, its directory and trailer are down, and all of the committed generation is home.
+-- The flush just before a header write comes after all that it is to cover: a snapshot is pending, its directory and
+-- trailer are down, and all of the committed generation is home.
 unfoldable pub flushedHolds : ℕ → ℕ → ℕ → ℕ → Bool
 flushedHolds migrated committed tail pending = cond (eqb pending 0) false (eqb tail (tailFor pending) && leb committed migrated)
 
--- 0: writing; 1: flushed for the header write; 2: the flush after a header write or a start is owed, and comes before any directory block, trailer or migration.
+-- 0: writing; 1: flushed for the header write; 2: the flush after a header write or a start is owed, and comes before
+-- any directory block, trailer or migration.
 unfoldable pub phaseHolds : ℕ → ℕ → ℕ → ℕ → ℕ → Bool
 phaseHolds phase migrated committed tail pending =
     cond (eqb phase 0) true (cond (eqb phase 1) (flushedHolds migrated committed tail pending) (eqb phase 2 && (eqb migrated 0 && eqb tail 0)))

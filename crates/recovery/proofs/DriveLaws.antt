@@ -1,5 +1,5 @@
--- A drive that puts writes down in an order of its own: what a cut leaves is a case of a stronger adversary, which gives every block that was written since the last flush any bytes,
--- but leaves block 0 old or new.
+-- A drive that puts writes down in an order of its own: what a cut leaves is a case of a stronger adversary, which
+-- gives every block that was written since the last flush any bytes, but leaves block 0 old or new.
 -- Assumes nothing.
 use Prim.Native.Nat.{ℕ, _+_, _*_, _≤_, _<_}
 use borrow.Author.Tests.{eq-eqb, ne-eqb}

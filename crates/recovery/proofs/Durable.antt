@@ -1,11 +1,14 @@
--- A drive of which every cut leaves a card that shows what is kept, or, where a header write is not flushed and is found old, what was kept before it.
+-- A drive of which every cut leaves a card that shows what is kept, or, where a header write is not flushed and is
+-- found old, what was kept before it.
 --
 --   1. The card that the calls see shows what is kept.
 --   2. Every write that is not flushed is a whole block of the card.
---   3. All but header writes do no harm to the committed generation: they lie outside its stretch, or at the home of a frame that it names.
+--   3. All but header writes do no harm to the committed generation: they lie outside its stretch, or at the home of
+--      a frame that it names.
 --   4. If no header write is to be feared, there is none among them.
---   5. If one is: with the header as it was at the last flush the card shows what was kept before; the other writes do no harm to the generation of that header either; and every
---      header write among them has the bytes that block 0 is seen to have.
+--   5. If one is: with the header as it was at the last flush the card shows what was kept before; the other writes
+--      do no harm to the generation of that header either; and every header write among them has the bytes that block
+--      0 is seen to have.
 -- Assumes nothing.
 use Prim.Native.Nat.{ℕ, _+_, _*_, _≤_}
 use lib.ListN.{length}
@@ -25,7 +28,7 @@ use Rattle.recovery.proofs.Harmless.{Harmless, harmless-low, harmless-l
 use Rattle.recovery.proofs.Invariant.{Recoverable}
 use Rattle.recovery.proofs.Sorted.{SortedGeneration}
 use Rattle.recovery.specs.Contents.{Contents}
-use Rattle.recovery.specs.Write.{BlockWrite, Drive, putAll, seen, settled, written, Left, headerAmong, Holds0, Reached}
+use Rattle.recovery.specs.Write.{BlockWrite, Drive, putAll, seen, settled, written, Left, headerAmong, HeaderIs, Reached}
 
 -- all but header writes do no harm to a generation
 abbrev pub Apart : ℕ → ℕ → SortedGeneration → List BlockWrite → Type 0
@@ -101,9 +104,9 @@ durable-cut blocks area ranges commit g v kept (some k) d c′ l =
     let found : (blockAt c′ 0 ≡ blockAt (v .flushed) 0) ⊎ (blockAt c′ 0 ≡ blockAt (seen v) 0) =
     left-head blocks (λ x. (x ≡ blockAt (v .flushed) 0) ⊎ (x ≡ blockAt (seen v) 0)) c′ (v .since) (v .flushed) (d .whole) (d .proper) l (inl refl)
     (all-map (λ w. w .block ≡ 0 → w .bytes ≡ blockAt (seen v) 0) (λ w. w .block ≡ 0 → (w .bytes ≡ blockAt (v .flushed) 0) ⊎ (w .bytes ≡ blockAt (seen v) 0)) (v .since) (λ w h z. inr (h z)) (e .4)) in (
-      (λ r. cut-new blocks area ranges v (d .whole) (d .proper) c′ l commit g kept (d .card) (d .apart) (subst (λ (o : Option (List ℕ)). Holds0 o c′) (e .5) r)),
+      (λ r. cut-new blocks area ranges v (d .whole) (d .proper) c′ l commit g kept (d .card) (d .apart) (subst (λ (o : Option (List ℕ)). HeaderIs o c′) (e .5) r)),
       (λ n. ⊎-elim (λ old. cut-old blocks area ranges v (d .whole) (d .proper) c′ l (e .0) (e .1) k (e .2) (e .3) old)
-          (λ new. absurd (n (subst (λ (o : Option (List ℕ)). Holds0 o c′) (sym (e .5)) new))) found),
+          (λ new. absurd (n (subst (λ (o : Option (List ℕ)). HeaderIs o c′) (sym (e .5)) new))) found),
     )
 
 -- ---- flushes and writes

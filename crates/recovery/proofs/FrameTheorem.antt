@@ -1,4 +1,5 @@
--- A start accepts every card that is stored, shows what is kept and follows the book; what each write puts down; and a state that follows is sound.
+-- A start accepts every card that is stored, shows what is kept and follows the book; what each write puts down; and
+-- a state that follows is sound.
 -- Assumes nothing.
 use Prim.Native.Nat.{ℕ, _*_, _/_, _≤_, _<_}
 use lib.ListN.{length}

@@ -1,4 +1,5 @@
--- Blocks outside the committed generation, and the homes of frames that it names, may hold any bytes: what a started card shows stays.
+-- Blocks outside the committed generation, and the homes of frames that it names, may hold any bytes: what a started
+-- card shows stays.
 -- Assumes nothing.
 use Prim.Native.Nat.{ℕ, _+_, _*_, _≤_, _<_}
 use lib.ListN.{length}

@@ -8,6 +8,7 @@ pub mod NoteLaws
 pub mod TailLaws
 pub mod Harmless
 pub mod DriveLaws
+pub mod Adversary
 pub mod Writes
 pub mod StepOut
 pub mod StepTail

@@ -1,8 +1,10 @@
--- A state with its drive: every step keeps what a cut after it needs, and a cut, between calls or in one, leaves what the book keeps.
+-- A state with its drive: every step keeps what a cut after it needs, and a cut, between calls or in one, leaves what
+-- the book keeps.
 --
 --   1. The state follows the book on the card that the calls see.
 --   2. The drive is durable for the state's committed generation.
---   3. Between the flush before a header write and that write, what is not flushed does no harm to the pending generation either: it is page-outs of the current one.
+--   3. Between the flush before a header write and that write, what is not flushed does no harm to the pending
+--      generation either: it is page-outs of the current one.
 --   4. Unless a flush is owed, no header write is unflushed.
 -- Assumes nothing.
 use Prim.Native.Nat.{ℕ, suc, _<_}
@@ -39,7 +41,7 @@ use Rattle.recovery.specs.Contents.{Contents, FrameBytes}
 use Rattle.recovery.specs.Questions.{roomAsks, snapshotAsks, pageOutAsks}
 use Rattle.recovery.specs.State.{State, directoryOf, flushed, owed, isOwed, isFlushed}
 use Rattle.recovery.specs.Step.{afterChange, afterSnapshot, Kind, page, directory, trailer, migration, header, flush, outWrite, tailBytes, trailerBlockNo, nextMigration, kindWrite, kindPut, kindDrive, afterKind, advanceDue, pageOutWrite, afterPageOut, startState}
-use Rattle.recovery.specs.Write.{BlockWrite, putDown, Drive, putAll, seen, settled, written, Left, Cut, Holds0, Reached, ReachedIs}
+use Rattle.recovery.specs.Write.{BlockWrite, putDown, Drive, putAll, seen, settled, written, Left, Cut, HeaderIs, Reached, ReachedIs}
 
 -- the card that is seen after a kind
 pub seen-drive : (k : Kind) (w : BlockWrite) (v : Drive) → seen (kindDrive k (kindPut k w) v) ≡ putDown (kindPut k w) (seen v)
@@ -89,7 +91,7 @@ module _ (blocks area : ℕ) (ranges : List Range) where
 
   -- without a header write that is not flushed none can be found
   pub none-reached : (v : Drive) (kept : Contents) → Preserved blocks area ranges v kept none → (c′ : List ℕ) → Reached (v .since) c′ → ⊥
-  none-reached v kept k c′ r = subst (λ (o : Option (List ℕ)). Holds0 o c′) (no-header none (v .since) (k .2 .earlier)) r
+  none-reached v kept k c′ r = subst (λ (o : Option (List ℕ)). HeaderIs o c′) (no-header none (v .since) (k .2 .earlier)) r
 
   -- a cut between calls, and one in a call, whose write is then one of those that are not flushed
   pub preserved-cut : (v : Drive) (b : FrameBook) (before : Option Contents) → Preserved blocks area ranges v (b .kept) before → (c′ : List ℕ) → Left c′ (v .since) (v .flushed) → (reached : Bool)
@@ -191,7 +193,8 @@ module _ (blocks area : ℕ) (ranges : List Range) where
     quiet-gen : (h : Facts s header) → sortedGeneration (s .area) (s .pending) ≡ sortedCommitted (record { first = s .pending .first; places = s .pending .pagesDown; entries = directoryOf (s .area) (s .pending) })
     quiet-gen h = λ i. record { first = s .pending .first; pagesDown = s .pending .pagesDown; dir = directoryOf (s .area) (s .pending); waiting = no-waiting f (h .0 .1) i }
 
-    -- the flush before a header write and the flush after it meet here: what is not flushed when the header is written does no harm to the old generation or the new one
+    -- the flush before a header write and the flush after it meet here: what is not flushed when the header is
+    -- written does no harm to the old generation or the new one
     head-durable : Facts s header → Durable blocks area ranges (suc (s .commit)) (sortedGeneration (s .area) (s .pending)) (written (some (kindWrite header s (seen v))) v) (markedOr b) (some (b .kept))
     head-durable h =
         let calm = flushed-not-owed (s .phase) (h .1) in
@@ -263,7 +266,8 @@ module _ (blocks area : ℕ) (ranges : List Range) where
     -- ---- page-out
 
     module _ (ok : firstNo (pageOutAsks s) ≡ 0) where
-      -- its write: it does no harm to the committed generation, and after the flush before a header write none to the pending one
+      -- its write: it does no harm to the committed generation, and after the flush before a header write none to the
+      -- pending one
       abbrev Out : BlockWrite → Type 0
       Out w = Quiet w × (isFlushed (s .phase) ≡ true → Harmless blocks (s .area) (sortedGeneration (s .area) (s .pending)) (w .block))
 

@@ -1,13 +1,16 @@
--- The whole run of document 01 with document 02's flushes (#110), of the definitions: area 8, one range of 1 page (home block 10, its pot 9), 11 blocks, memory of 4 frames.
+-- The whole run of document 01 with document 02's flushes (#110), of the definitions: area 8, one range of 1 page
+-- (home block 10, its pot 9), 11 blocks, memory of 4 frames.
 -- Assumes nothing.
 use Prim.Native.Nat.{ℕ, zero, suc}
 use mathlib.Core.List.{List, [], _∷_}
 use mathlib.Core.Option.{Option, none, some}
 use mathlib.Core.Path.{_≡_, refl}
+use Rattle.card.specs.Question.{firstNo}
 use Rattle.card.specs.Ring.{ringAt, generationSize}
 use Rattle.recovery.specs.Directory.{noteChange, insertByFrame, byFrame, downEntries, dirOf, turnOf}
+use Rattle.recovery.specs.Questions.{pageOutAsks}
 use Rattle.recovery.specs.State.{places, State, size, directoryOf, empty, owed}
-use Rattle.recovery.specs.Step.{queued, changeFrame, changeFrames, afterChange, afterSnapshot, Kind, page, directory, trailer, migration, header, flush, outOf, trailerBlockNo, nextMigration, kindWrite, afterKind, migrationDue, advanceDue}
+use Rattle.recovery.specs.Step.{queued, changeFrame, changeFrames, afterChange, afterSnapshot, Kind, page, directory, trailer, migration, header, flush, outOf, trailerBlockNo, nextMigration, kindWrite, afterKind, migrationDue, advanceDue, afterPageOut}
 
 record Line : Type 0 where
   kind : Kind
@@ -57,3 +60,17 @@ down = afterKind page (afterKind page (afterKind flush wrote))
 whole-directory : directoryOf 8 (down .pending) ≡ record { frame = 9; block = 2 } ∷ record { frame = 10; block = 1 } ∷ []
 unfolding down wrote began afterKind afterChange changeFrames changeFrame queued turnOf noteChange afterSnapshot outOf places size generationSize empty directoryOf dirOf downEntries byFrame insertByFrame ringAt
 whole-directory = refl
+
+-- while the flush after a start is due page-out is refused 28; then, with nothing that waits, 19
+owed-refuses : (firstNo (pageOutAsks began) ≡ 28) × (firstNo (pageOutAsks (afterKind flush began)) ≡ 19)
+unfolding began pageOutAsks afterKind empty firstNo
+owed-refuses = (refl, refl)
+
+-- the flush before a header write is made once: a page-out after it brings no second one
+covered : State
+unfolding down
+covered = afterPageOut (afterChange (record { frame = 10; bytes = [] } ∷ []) (afterKind flush (afterKind trailer (afterKind directory down))))
+
+flushed-once : trace 5 covered ≡ line header 0 ∷ line flush 0 ∷ line migration 9 ∷ line migration 10 ∷ []
+unfolding covered down trace traced line wrote began advanceDue migrationDue kindWrite afterKind afterChange changeFrames changeFrame queued turnOf noteChange afterSnapshot afterPageOut outOf places size generationSize empty directoryOf dirOf downEntries byFrame insertByFrame nextMigration trailerBlockNo ringAt
+flushed-once = refl

@@ -55,7 +55,8 @@ keptBefore migration b o = o
 keptBefore header b o = some (b .kept)
 keptBefore flush b o = none
 
--- a cut: the header write that is not flushed was found, or what was kept before it is kept again; without one, the header write being made, if any, has reached the card or not
+-- a cut: the header write that is not flushed was found, or what was kept before it is kept again; without one, the
+-- header write being made, if any, has reached the card or not
 abbrev pub bookCut : Option Contents → Bool → FrameBook → FrameBook
 bookCut none reached b = cond reached (bookHeader b) b
 bookCut (some k) reached b = record { present = b .present; marked = b .marked; kept = cond reached (b .kept) k }

@@ -76,7 +76,8 @@ pub record Sound (s : State) : Type 0 where
   pub migrated-within : s .migrated ≤ length (s .committed .entries)
   pub tail-within : s .pending .pagesDown + s .tailDown ≤ size (s .pending)
   pub tail-after : 0 < s .tailDown → length (s .pending .waiting) ≡ 0
-  -- the flush before the header write comes after all of these, the one after a header write or a start before any of them
+  -- the flush before the header write comes after all of these, the one after a header write or a start before any of
+  -- them
   pub flushed-after : isFlushed (s .phase) ≡ true
       → (0 < entryCount (s .pending)) × (length (s .pending .waiting) ≡ 0) × (dirBlocks (entryCount (s .pending)) < s .tailDown) × (length (s .committed .entries) ≤ s .migrated)
   pub owed-before : isOwed (s .phase) ≡ true → (s .migrated ≡ 0) × (s .tailDown ≡ 0)

@@ -18,7 +18,7 @@ use Rattle.recovery.specs.Directory.{noteChange, turnOf}
 use Rattle.recovery.specs.State.{Committed, Generation, State, places, entryCount, size, committedSize, directoryOf, empty, Phase, writing, flushed, owed, isOwed, isFlushed}
 use Rattle.recovery.specs.Write.{BlockWrite, Drive, seen, settled, written}
 
--- the state with another pending or current generation
+-- the state with another pending or current generation, or another phase
 abbrev pub pendingTo : Generation → ℕ → State → State
 pendingTo g n s = record {
   blocks = s .blocks;
@@ -47,6 +47,21 @@ currentTo g s = record {
   tailDown = s .tailDown;
   current = g;
   phase = s .phase;
+}
+
+abbrev pub phaseTo : Phase → State → State
+phaseTo p s = record {
+  blocks = s .blocks;
+  area = s .area;
+  ranges = s .ranges;
+  memoryFrames = s .memoryFrames;
+  commit = s .commit;
+  committed = s .committed;
+  migrated = s .migrated;
+  pending = s .pending;
+  tailDown = s .tailDown;
+  current = s .current;
+  phase = p;
 }
 
 -- ---- a change of frames
@@ -190,19 +205,7 @@ afterKind header s = record {
   current = s .current;
   phase = owed;  -- the flush just after the header write
 }
-afterKind flush s = record {
-  blocks = s .blocks;
-  area = s .area;
-  ranges = s .ranges;
-  memoryFrames = s .memoryFrames;
-  commit = s .commit;
-  committed = s .committed;
-  migrated = s .migrated;
-  pending = s .pending;
-  tailDown = s .tailDown;
-  current = s .current;
-  phase = afterFlush (s .phase);
-}
+afterKind flush s = phaseTo (afterFlush (s .phase)) s
 
 -- ---- which write is due
 

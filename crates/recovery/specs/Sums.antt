@@ -38,7 +38,8 @@ entriesNeeded (w ∷ ws) g = cond (notedIn (w .frame) (g .entries)) 0 1 + entrie
 abbrev pub sizeAfter : List FrameBytes → State → ℕ
 sizeAfter ws s = generationSize (places (s .current) + placesNeeded ws (s .current)) (entryCount (s .current) + entriesNeeded ws (s .current))
 
--- What advance has still to make, in document 01's order, with document 02's flushes (#110): one that is owed first, one before the header write unless it is made, one after it.
+-- What advance has still to make, in document 01's order, with document 02's flushes (#110): one that is owed first,
+-- one before the header write unless it is made, one after it.
 unfoldable pub remainingWrites : State → List Kind
 remainingWrites s =
     let e = entryCount (s .pending) in

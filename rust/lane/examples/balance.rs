@@ -37,7 +37,7 @@ fn put(file: &File, bytes: &[u8], block: usize) -> io::Result<()> {
     file.write_all_at(bytes, (block * BLOCK) as u64)
 }
 
-/// Durable before it is used; a cut before that is a card to format again.
+/// The header goes last, behind a flush: start refuses a new file without it.
 fn format(image: &str) -> Outcome<()> {
     let mut card = vec![0; BLOCKS * BLOCK];
     lane::format(&mut card, AREA, &[TAGS])?;
@@ -45,7 +45,9 @@ fn format(image: &str) -> Outcome<()> {
         .write(true)
         .create_new(true)
         .open(image)?;
-    put(&file, &card, 0)?;
+    put(&file, &card[BLOCK..], 1)?;
+    file.sync_data()?;
+    put(&file, &card[..BLOCK], 0)?;
     file.sync_data()?;
     Ok(())
 }
@@ -95,33 +97,36 @@ impl Controller {
             if kill_at.is_some_and(|at| at.get() == n) {
                 self.cut(report)?;
             }
-            if matches!(report, Advance::F(_)) {
-                self.file.sync_data()?;
-                println!("{report} flushed");
-                continue;
+            match report.block() {
+                None => {
+                    self.file.sync_data()?;
+                    println!("{report} flushed");
+                }
+                Some(block) => {
+                    put(&self.file, self.block(block), block)?;
+                    println!("{report} written");
+                }
             }
-            put(&self.file, self.block(report), report.block())?;
-            println!("{report} written");
         }
         Ok(())
     }
 
-    fn block(&self, report: Advance) -> &[u8] {
-        &self.card[report.block() * BLOCK..][..BLOCK]
+    fn block(&self, block: usize) -> &[u8] {
+        &self.card[block * BLOCK..][..BLOCK]
     }
 
-    /// Dies as in a power cut: block 0 is still old, any other has no sense in its first half. A
-    /// flush is not made.
+    /// Dies as in a power cut: a flush is not made, block 0 is still old, any other block has no
+    /// sense in its first half.
     fn cut(&self, report: Advance) -> Outcome<()> {
-        if matches!(report, Advance::F(_)) {
-            println!("{report} not flushed");
-        } else if matches!(report, Advance::H(_)) {
-            println!("{report} not written");
-        } else {
-            let mut torn = self.block(report).to_vec();
-            torn[..BLOCK / 2].fill(0xFF);
-            put(&self.file, &torn, report.block())?;
-            println!("{report} torn");
+        match report.block() {
+            None => println!("{report} not flushed"),
+            Some(0) => println!("{report} not written"),
+            Some(block) => {
+                let mut torn = self.block(block).to_vec();
+                torn[..BLOCK / 2].fill(0xFF);
+                put(&self.file, &torn, block)?;
+                println!("{report} torn");
+            }
         }
         Command::new("sh")
             .args(["-c", "kill -KILL $PPID"])

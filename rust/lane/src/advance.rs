@@ -2,7 +2,8 @@ use crate::c::Report;
 use crate::Refusal;
 use std::fmt;
 
-/// The block write that an advance or a page-out made, or the flush that an advance asks for: its kind, with the block written, 0 for a flush.
+/// The block write that an advance or a page-out made, with its block, or the flush that an advance
+/// asks for, which reports block 0 and writes none.
 #[derive(Clone, Copy, Debug, Eq, Hash, PartialEq)]
 pub enum Advance {
     /// The oldest waiting frame, to the area.
@@ -13,16 +14,19 @@ pub enum Advance {
     T(usize),
     /// A frame of the committed generation, copied to its home block.
     M(usize),
-    /// The header, block 0: the snapshot is committed.
+    /// The header, block 0: the snapshot is safe at the flush after it.
     H(usize),
-    /// A flush, block 0: no block is written, and the device is to be flushed before the next call.
+    /// A flush: the device is to be flushed before the next call, and no block is written.
     F(usize),
 }
 
 impl Advance {
-    /// The block written.
-    pub fn block(self) -> usize {
-        self.parts().1
+    /// The block written; none for a flush.
+    pub fn block(self) -> Option<usize> {
+        match self {
+            Advance::F(_) => None,
+            report => Some(report.parts().1),
+        }
     }
 
     fn parts(self) -> (char, usize) {

@@ -2,7 +2,8 @@
 //!
 //! A controller formats a card once. After every power-up it starts, and then lends the card and
 //! its memory to each call of the [`Store`]. A snapshot marks all pages and counts; it is kept,
-//! whatever cut comes, once [`Store::advance`] has written the header.
+//! whatever cut comes, once [`Store::advance`] has written the header and asked for the flush after
+//! it.
 //!
 //! ```
 //! use lane::{format, Advance, Range, Refusal, Store, BLOCK};
@@ -18,6 +19,7 @@
 //! store.write(&card, &mut memory, key, 0, b"paid")?;
 //! store.snapshot(&card, &memory)?;
 //! while store.advance(&mut card, &memory)? != Advance::H(0) {}
+//! assert_eq!(store.advance(&mut card, &memory)?, Advance::F(0));
 //!
 //! // The power fails, and only the card is left: memory holds any bytes.
 //! let memory = [255; 4 * BLOCK];
@@ -33,8 +35,9 @@
 //! answered "no".
 //!
 //! Where the card is a copy of a device's blocks, the program writes the block that an advance or a
-//! page-out changed, and no other, and waits until it is durable before the next of these two calls;
-//! `include/lane.h` says what else program and device owe.
+//! page-out reports, and no other, in any order and without waiting for it; at [`Advance::F`] it
+//! writes none and flushes the device before the next call. `include/lane.h` says what else program
+//! and device owe.
 
 #![deny(missing_docs)]
 #![deny(clippy::undocumented_unsafe_blocks)]

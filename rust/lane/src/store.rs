@@ -61,18 +61,19 @@ impl Store {
     }
 
     /// Marks all pages and counts as they are, to be kept once [`advance`](Store::advance) has
-    /// written the header.
+    /// written the header and the flush after it is made.
     pub fn snapshot(&mut self, card: &[u8], memory: &[u8]) -> Result<(), Refusal> {
         Refusal::done(raw::snapshot(&mut self.record, card, memory))
     }
 
     /// Writes the oldest waiting frame to the area, which frees its memory frame, and reports it as
-    /// [`Advance::P`].
+    /// [`Advance::P`]. Refused 28 until the flush after a start or a header write is made.
     pub fn page_out(&mut self, card: &mut [u8], memory: &[u8]) -> Result<Advance, Refusal> {
         Advance::of(raw::page_out(&mut self.record, card, memory))
     }
 
-    /// Makes the next block write of a commit or of migration, and reports it.
+    /// Makes the next block write of a commit or of migration, and reports it; or asks for the flush
+    /// that comes before it: just before every header write, just after it, and first after a start.
     pub fn advance(&mut self, card: &mut [u8], memory: &[u8]) -> Result<Advance, Refusal> {
         Advance::of(raw::advance(&mut self.record, card, memory))
     }
