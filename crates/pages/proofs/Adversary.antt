@@ -1,11 +1,11 @@
--- The list of demand 3 has every cut that a drive may make, between calls and in one, once the format is complete, and
--- a start at any time, which flushes nothing. What a drive may do is in recovery's Adversary.
+-- The list of demand 3 has every cut that a drive may make, between calls and in one, once the format is complete; and
+-- no call flushes but where it answers F, a start neither. What a drive may do is in recovery's Adversary.
 -- Assumes nothing.
 use Prim.Native.Nat.{ℕ}
-use mathlib.Core.Bool.{Bool, true, false, _||_}
+use mathlib.Core.Bool.{Bool, true, false, _||_, false≢true}
 use mathlib.Core.List.{List}
-use mathlib.Core.Option.{none, some}
-use mathlib.Core.Path.{_≡_, refl, subst}
+use mathlib.Core.Option.{Option, none, some}
+use mathlib.Core.Path.{_≡_, refl, ap, sym, _∙_, subst}
 use native.Mathlib.Decide.{ℕ-discrete}
 use Rattle.card.specs.Question.{firstNo}
 use Rattle.frames.specs.Promise as frames
@@ -14,10 +14,11 @@ use Rattle.pages.proofs.AnswerLaws.{block-done, block-none, kept-done, 
 use Rattle.pages.proofs.RunLaws.{or-false}
 use Rattle.pages.specs.Book.{called, cutIn, cut, isFlush}
 use Rattle.pages.specs.Demand3.{World, lentTo, driveAfter, Step, calls, cutWithin, cutBetween}
-use Rattle.pages.specs.Promise.{Call, start, Answer, asks, frameCall, doneAnswer, refusal, outcome, Kept}
+use Rattle.pages.specs.Promise.{Call, start, Answer, refused, done, counted, filled, wrote, asks, frameCall, doneAnswer, refusal, outcome, Kept}
 use Rattle.record.specs.Meaning.{zeroStore}
 use Rattle.recovery.proofs.Adversary.{either-way}
-use Rattle.recovery.specs.Write.{Drive, settled, seen, written, Cut}
+use Rattle.recovery.specs.Step.{page, directory, trailer, migration, header, flush}
+use Rattle.recovery.specs.Write.{BlockWrite, Drive, settled, seen, written, Cut}
 
 -- after a cut nothing is held, and nothing is unflushed
 abbrev cutTo : List ℕ → World
@@ -30,24 +31,49 @@ module _ (w : World) (complete : w .complete ≡ true) (card : List ℕ) where
   pub cut-within : (c : Call) (l : Lent) → lentTo c w ≡ some l → Cut (w .drive) (outcome c l .write) card → (reached : Bool) × Step (cutIn c reached) w (cutTo card)
   cut-within c l e k = let r = either-way (written (outcome c l .write) (w .drive) .since) card in (r .0, cutWithin c (r .0) w l card complete e k (r .1))
 
+-- ---- calls flush nothing but where they answer F
+
+not-flush : (a : Answer) → ((n : ℕ) → a ≡ wrote flush n → ⊥) → isFlush a ≡ false
+unfolding isFlush
+not-flush (refused n) h = refl
+not-flush done h = refl
+not-flush (counted n) h = refl
+not-flush (filled n x) h = refl
+not-flush (wrote page n) h = refl
+not-flush (wrote directory n) h = refl
+not-flush (wrote trailer n) h = refl
+not-flush (wrote migration n) h = refl
+not-flush (wrote header n) h = refl
+not-flush (wrote flush n) h = absurd (h n refl)
+
+after : Lent → Drive → Bool → World
+after l v t = record { drive = v; held = some l; complete = t }
+
+-- a call's write, if it makes one, joins what is not flushed
+pub unflushed-call : (w : World) (c : Call) (a : Answer) (l l′ : Lent) → lentTo c w ≡ some l → Kept c l a l′ → ((n : ℕ) → a ≡ wrote flush n → ⊥)
+    → Step (called c a) w (record { drive = written (outcome c l .write) (w .drive); held = some l′; complete = w .complete })
+unfolding after
+unflushed-call w c a l l′ e k h = subst (Step (called c a) w) same (calls c a w l l′ e k)
+  where
+    same : after l′ (driveAfter a (outcome c l .write) (w .drive)) (w .complete || isFlush a) ≡ after l′ (written (outcome c l .write) (w .drive)) (w .complete)
+    same = rw (not-flush a h, or-false (w .complete)) refl
+
 -- a start, done or refused, at any time and without a cut: what is not flushed stays so
 pub start-anytime : (w : World) (m : List ℕ) (a : Answer) (l : Lent) → Kept (start m) (lent zeroStore m (seen (w .drive))) a l
     → Step (called (start m) a) w (record { drive = w .drive; held = some l; complete = w .complete })
-unfolding isFlush frameCall doneAnswer frames.doneWrite refusal
-start-anytime w m a l k = subst (Step (called (start m) a) w) same (calls (start m) a w was l refl k)
+unfolding frameCall doneAnswer frames.doneWrite refusal
+start-anytime w m a l k = subst (λ (o : Option BlockWrite). Step (called (start m) a) w (record { drive = written o (w .drive); held = some l; complete = w .complete })) (told .1)
+    (unflushed-call w (start m) a was l refl k (told .0))
   where
     was : Lent
     was = lent zeroStore m (seen (w .drive))
 
-    tells : Dec (firstNo (asks (start m) was) ≡ 0) → (isFlush a ≡ false) × (outcome (start m) was .write ≡ none)
-    tells (yes e) = (rw (kept-done (start m) was l a k e .0) refl, block-done (start m) was e)
-    tells (no z) = (rw (kept-refused (start m) was l a k z .0) refl, block-none (start m) was z)
+    no-flush : (b : Answer) → isFlush b ≡ false → a ≡ b → (n : ℕ) → a ≡ wrote flush n → ⊥
+    no-flush b q e n f = unfold isFlush in (false≢true (sym q ∙ ap isFlush (sym e ∙ f)))
 
-    told : (isFlush a ≡ false) × (outcome (start m) was .write ≡ none)
+    tells : Dec (firstNo (asks (start m) was) ≡ 0) → ((n : ℕ) → a ≡ wrote flush n → ⊥) × (outcome (start m) was .write ≡ none)
+    tells (yes e) = (no-flush done (unfold isFlush in refl) (kept-done (start m) was l a k e .0), block-done (start m) was e)
+    tells (no z) = (no-flush (refused (firstNo (asks (start m) was))) (unfold isFlush in refl) (kept-refused (start m) was l a k z .0), block-none (start m) was z)
+
+    told : ((n : ℕ) → a ≡ wrote flush n → ⊥) × (outcome (start m) was .write ≡ none)
     told = tells (ℕ-discrete (firstNo (asks (start m) was)) 0)
-
-    after : Drive → Bool → World
-    after v t = record { drive = v; held = some l; complete = t }
-
-    same : after (driveAfter a (outcome (start m) was .write) (w .drive)) (w .complete || isFlush a) ≡ after (w .drive) (w .complete)
-    same = rw (told .0, told .1, or-false (w .complete)) refl

@@ -81,7 +81,7 @@ pub left-torn : (ws ts rs : List BlockWrite) (w : BlockWrite) (c x : List ℕ) �
     → Left (putBlock (putAll ts c) (w .block) x) ws c
 left-torn ws ts rs w c x p low long =
     let c′ = putBlock (putAll ts c) (w .block) x in
-    any-order c′ c p (put-first c′ ts (w ∷ rs) c (torn (w ∷ rs) [] rs w (putAll ts c) x refl low long refl))
+    any-order c′ c p (put-first c′ ts (w ∷ rs) c (torn (w ∷ rs) [] rs w (putAll ts c) x refl (omega (arith, low)) long refl))
 
 -- all but one, or one alone: a header write too, which is found old in the first case and new in the second
 module _ (us vs : List BlockWrite) (h : BlockWrite) (c : List ℕ) where

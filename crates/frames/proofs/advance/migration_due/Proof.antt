@@ -1,13 +1,24 @@
 -- `frames::advance::migration_due` meets its contract.
 -- Assumes nothing.
 use borrow.Author.Needs.{needs}
+use mathlib.Core.Bool.{false}
+use mathlib.Core.Path.{_≡_}
 use Rattle.frames.proofs.DueLaws.{advance-none, advance-done, migration-put, not-owed, due-idle, due-nothing}
 use Rattle.frames.proofs.ReadyLaws.{ready, writable}
 use Rattle.frames.specs.Promise.{reported}
-use Rattle.record.proofs.Held.{held}
+use Rattle.record.proofs.Held.{Held, held}
+use Rattle.record.specs.Meaning.{phaseOf}
+use Rattle.recovery.specs.State.{isOwed}
 use Rattle.recovery.specs.Step.{migration}
 use Rattle.frames.proofs.advance.migration_due.Statement.{statement}
 use Rattle.frames.proofs.advance.migration_due.Tie as tie
+
+good : (a : tie.Start) → Held (a .args .s)
+good a = held (a .args .s) (ready (a .args .s) _ _ (a .pre .0) .together)
+
+-- no flush is owed
+calm : (a : tie.Start) → isOwed (phaseOf (a .args .s .phase)) ≡ false
+calm a = not-owed (a .args .s) (a .pre .1 .1) (good a)
 
 migrate-requires : tie.Need-migrate-requires
 migrate-requires c κs =
@@ -18,13 +29,13 @@ returns : tie.Need-returns
 unfolding reported
 returns c =
     let at-start = c .before .before .before .before .before .before .before .before .before in
-    advance-done (at-start .args .s) _ _ (at-start .pre .0) migration migration-put _ _ (due-idle (at-start .args .s) _ (not-owed (at-start .args .s) (at-start .pre .1 .1) (held (at-start .args .s) (ready (at-start .args .s) _ _ (at-start .pre .0) .together))) (at-start .pre .1 .0) (c .before .before .before .before .before .if1 .taken)) ((c .before .before .before .migrate .ensures) _)
+    advance-done (at-start .args .s) _ _ (at-start .pre .0) migration migration-put _ _ (due-idle (at-start .args .s) _ (calm at-start) (at-start .pre .1 .0) (c .before .before .before .before .before .if1 .taken)) ((c .before .before .before .migrate .ensures) _)
 
 returns-2 : tie.Need-returns-2
 unfolding reported
 returns-2 c =
     let at-start = c .before .before .before .before in
-    advance-none (at-start .args .s) _ _ (at-start .pre .0) (due-nothing (at-start .args .s) _ (not-owed (at-start .args .s) (at-start .pre .1 .1) (held (at-start .args .s) (ready (at-start .args .s) _ _ (at-start .pre .0) .together))) (at-start .pre .1 .0) (c .if1 .left))
+    advance-none (at-start .args .s) _ _ (at-start .pre .0) (due-nothing (at-start .args .s) _ (calm at-start) (at-start .pre .1 .0) (c .if1 .left))
 
 pub migration-due-spec : {M : Type 1} → statement M
 migration-due-spec =

@@ -1,19 +1,30 @@
 -- `frames::advance::tail_due` meets its contract.
 -- Assumes nothing.
 use borrow.Author.Needs.{needs}
+use mathlib.Core.Bool.{false}
+use mathlib.Core.Path.{_≡_}
 use native.Mathlib.Omega.{arith}
 use Rattle.frames.proofs.DueLaws.{advance-done, directory-put, trailer-put, not-owed, due-directory, due-trailer}
 use Rattle.frames.proofs.ReadyLaws.{ready, writable}
 use Rattle.frames.specs.Promise.{reported}
-use Rattle.record.proofs.Held.{held, bounds}
+use Rattle.record.proofs.Held.{Held, held, bounds}
+use Rattle.record.specs.Meaning.{phaseOf}
+use Rattle.recovery.specs.State.{isOwed}
 use Rattle.recovery.specs.Step.{directory, trailer}
 use Rattle.frames.proofs.advance.tail_due.Statement.{statement}
 use Rattle.frames.proofs.advance.tail_due.Tie as tie
 
+good : (a : tie.Start) → Held (a .args .s)
+good a = held (a .args .s) (ready (a .args .s) _ _ (a .pre .0) .together)
+
+-- no flush is owed
+calm : (a : tie.Start) → isOwed (phaseOf (a .args .s .phase)) ≡ false
+calm a = not-owed (a .args .s) (a .pre .1 .1 .1) (good a)
+
 add-blocks : tie.Need-add-blocks
 add-blocks c =
-    let b = bounds (c .before .before .before .args .s) (held (c .before .before .before .args .s) (ready (c .before .before .before .args .s) _ _ (c .before .before .before .pre .0) .together)) in
-    omega (arith, b .pending-small)
+    let at-start = c .before .before .before in
+    omega (arith, bounds (at-start .args .s) (good at-start) .pending-small)
 
 directory-block-requires : tie.Need-directory-block-requires
 directory-block-requires c κs =
@@ -24,7 +35,7 @@ returns : tie.Need-returns
 unfolding reported
 returns c =
     let at-start = c .before .before .before .before .before .before .before .before .before .before in
-    advance-done (at-start .args .s) _ _ (at-start .pre .0) directory directory-put _ _ (due-directory (at-start .args .s) _ (not-owed (at-start .args .s) (at-start .pre .1 .1 .1) (held (at-start .args .s) (ready (at-start .args .s) _ _ (at-start .pre .0) .together))) (λ e. omega (arith, e, (at-start .pre .1 .1 .0))) (at-start .pre .1 .0) (c .before .before .before .before .before .if1 .taken)) ((c .before .before .before .directory-block .ensures) _)
+    advance-done (at-start .args .s) _ _ (at-start .pre .0) directory directory-put _ _ (due-directory (at-start .args .s) _ (calm at-start) (λ e. omega (arith, e, (at-start .pre .1 .1 .0))) (at-start .pre .1 .0) (c .before .before .before .before .before .if1 .taken)) ((c .before .before .before .directory-block .ensures) _)
 
 trailer-block-requires : tie.Need-trailer-block-requires
 trailer-block-requires c κs =
@@ -35,7 +46,7 @@ returns-2 : tie.Need-returns-2
 unfolding reported
 returns-2 c =
     let at-start = c .before .before .before .before .before .before .before .before .before .before .before .before in
-    advance-done (at-start .args .s) _ _ (at-start .pre .0) trailer trailer-put _ _ (due-trailer (at-start .args .s) _ (not-owed (at-start .args .s) (at-start .pre .1 .1 .1) (held (at-start .args .s) (ready (at-start .args .s) _ _ (at-start .pre .0) .together))) (λ e. omega (arith, e, (at-start .pre .1 .1 .0))) (at-start .pre .1 .0) (c .before .before .before .before .before .if2 .taken)) ((c .before .before .before .trailer-block .ensures) _)
+    advance-done (at-start .args .s) _ _ (at-start .pre .0) trailer trailer-put _ _ (due-trailer (at-start .args .s) _ (calm at-start) (λ e. omega (arith, e, (at-start .pre .1 .1 .0))) (at-start .pre .1 .0) (c .before .before .before .before .before .if2 .taken)) ((c .before .before .before .trailer-block .ensures) _)
 
 header-due-requires : tie.Need-header-due-requires
 header-due-requires c κs =
