@@ -47,7 +47,7 @@ impl Book {
         self.marked = Some(self.present.clone());
     }
 
-    /// A header write has reached the card.
+    /// A header write was reported; until a flush a cut may find it old.
     pub fn header(&mut self) {
         self.before = Some(self.kept.clone());
         if let Some(marked) = self.marked.take() {
@@ -55,26 +55,23 @@ impl Book {
         }
     }
 
-    /// A flush.
+    /// A flush was reported: no header write can be found old any more.
     pub fn flush(&mut self) {
         self.before = None;
     }
 
     /// A cut, with whether the header write that is not flushed or is being
-    /// made, if any, reached the card.
+    /// made, if any, reached the card. What is found then stays.
     pub fn cut(&mut self, reached: bool) {
-        match self.before.take() {
-            Some(_) if reached => {}
-            Some(before) => self.kept = before,
-            None if reached => {
-                self.header();
-                self.before = None;
-            }
-            None => {}
+        match (self.before.take(), reached) {
+            (Some(before), false) => self.kept = before,
+            (None, true) => self.header(),
+            _ => {}
         }
+        self.flush();
     }
 
-    /// A start done.
+    /// A start done. A header write before it can still be found old.
     pub fn start(&mut self) {
         self.present = self.kept.clone();
         self.marked = None;

@@ -1,7 +1,8 @@
-//! A plain model of the lane page store, to be read beside document 01.
+//! A plain model of the lane page store, to be read beside document 01 and
+//! what document 02's #110 says of flushes.
 //!
 //! It is slow and simple on purpose: vectors, a map, and each sentence of the
-//! document where one looks for it. It has its own card, and each call answers
+//! documents where one looks for it. It has its own card, and each call answers
 //! either what was done (with the block that was written) or the number of the
 //! first question whose answer is "no".
 

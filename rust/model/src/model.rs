@@ -172,7 +172,7 @@ impl Model {
         store.page_out(card)
     }
 
-    /// Done, it says the kind and the block it wrote.
+    /// Done, it says the kind and the block it wrote, 0 for a flush.
     pub fn advance(&mut self, lent: Lent) -> Result<(Kind, usize), Refusal> {
         let (store, card) = self.asked_to_change(lent)?;
         store.advance(card)

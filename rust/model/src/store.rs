@@ -130,7 +130,7 @@ impl Store {
     }
 
     /// Writes the oldest waiting frame, pending before current, and says in
-    /// which block.
+    /// which block. It is refused while a flush is owed, also if none waits.
     pub fn page_out(&mut self, card: &mut [u8]) -> Result<usize, Refusal> {
         if self.phase == Phase::Owed {
             return Err(28);
@@ -148,7 +148,7 @@ impl Store {
         Err(19)
     }
 
-    /// The kind that advance writes next, if one is due.
+    /// The kind that advance makes next, if one is due.
     pub fn due(&self) -> Option<Kind> {
         if self.phase == Phase::Owed {
             return Some(Kind::F);
@@ -173,8 +173,8 @@ impl Store {
         }
     }
 
-    /// A flush that was owed leaves writing; the one before a header write
-    /// leaves that write next.
+    /// Writes no block. After the flush that was owed all else may go on; any
+    /// other is the one before a header write.
     fn flush(&mut self) -> usize {
         self.phase = match self.phase {
             Phase::Owed => Phase::Writing,

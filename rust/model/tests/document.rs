@@ -1,8 +1,10 @@
-//! Document 01's lane tables and whole run, shown of the model.
+//! Document 01's lane tables, the whole run with document 02's flushes, and
+//! where a flush is due, shown of the model.
 
 use model::blocks::{get, number};
 use model::generation::size;
 use model::geometry::BLOCK;
+use model::Kind::{D, F, H, M, P, T};
 use model::{Geometry, Kind, Lent, Model, Range};
 
 /// A 8, one range of the given pages from OID 100 on, memory of 4 frames.
@@ -19,8 +21,18 @@ fn small(pages: u32) -> (Model, Lent) {
     (model, lent)
 }
 
+/// The advances until one is refused, which is 20.
 fn advances(model: &mut Model, lent: Lent) -> Vec<(Kind, usize)> {
-    std::iter::from_fn(|| model.advance(lent).ok()).collect()
+    let run = std::iter::from_fn(|| model.advance(lent).ok()).collect();
+    assert_eq!(model.advance(lent), Err(20));
+    run
+}
+
+/// Page 100 written, a snapshot, and advances up to that kind.
+fn commit_up_to(kind: Kind, model: &mut Model, lent: Lent) {
+    assert_eq!(model.write(lent, 100, 0, 0, &[7]), Ok(()));
+    assert_eq!(model.snapshot(lent), Ok(()));
+    while model.advance(lent).expect("an advance is due").0 != kind {}
 }
 
 #[test]
@@ -70,41 +82,74 @@ fn whole_run() {
     let (mut model, lent) = small(1);
     assert_eq!(model.write(lent, 100, 0, 0, &[7]), Ok(()));
     assert_eq!(model.snapshot(lent), Ok(()));
-    let mut restarted_after_t = None;
-    let mut run = Vec::new();
-    while let Ok(advance) = model.advance(lent) {
-        run.push(advance);
-        if advance == (Kind::T, 4) {
-            restarted_after_t = Some(Model::new(model.card.clone()));
-        }
+    for advance in [(F, 0), (P, 1), (P, 2), (D, 3), (T, 4)] {
+        assert_eq!(model.advance(lent), Ok(advance));
     }
-    use Kind::{D, H, M, P, T};
-    let expected = [(P, 1), (P, 2), (D, 3), (T, 4), (H, 0), (M, 9), (M, 10)];
-    assert_eq!(run, expected);
+    let mut after_t = Model::new(model.card.clone());
+    for advance in [(F, 0), (H, 0)] {
+        assert_eq!(model.advance(lent), Ok(advance));
+    }
+    let mut after_h = Model::new(model.card.clone());
+    assert_eq!(advances(&mut model, lent), [(F, 0), (M, 9), (M, 10)]);
     let directory = get(&model.card, 3);
     let entries: Vec<u32> = (0..4).map(|i| number(&directory, 4 * i)).collect();
     assert_eq!(entries, [9, 2, 10, 1]);
 
-    let mut early = restarted_after_t.expect("the run has a trailer");
-    assert_eq!(early.start(lent), Ok(()));
-    assert_eq!(early.read(lent, 100, 0, BLOCK), Ok([0; BLOCK]));
-    assert_eq!(model.start(lent), Ok(()));
-    assert_eq!(model.read(lent, 100, 0, BLOCK).map(|page| page[0]), Ok(7));
+    assert_eq!(after_t.start(lent), Ok(()));
+    assert_eq!(after_t.read(lent, 100, 0, BLOCK), Ok([0; BLOCK]));
+    for restarted in [&mut after_h, &mut model] {
+        assert_eq!(restarted.start(lent), Ok(()));
+        let page = restarted.read(lent, 100, 0, BLOCK);
+        assert_eq!(page.map(|page| page[0]), Ok(7));
+    }
 }
 
 #[test]
-fn migration_left_over_comes_between_trailer_and_header() {
+fn migration_left_over_comes_between_trailer_and_flush() {
     let (mut model, lent) = small(1);
-    assert_eq!(model.write(lent, 100, 0, 0, &[7]), Ok(()));
-    assert_eq!(model.snapshot(lent), Ok(()));
-    for _ in 0..6 {
-        assert!(model.advance(lent).is_ok());
-    }
+    commit_up_to(M, &mut model, lent);
     assert_eq!(model.rescind(lent, 100, 0), Ok(()));
     assert_eq!(model.snapshot(lent), Ok(()));
-    use Kind::{D, H, M, P, T};
-    let expected = [(P, 5), (D, 6), (T, 7), (M, 10), (H, 0), (M, 9)];
-    assert_eq!(advances(&mut model, lent), expected);
+    let before = [(P, 5), (D, 6), (T, 7), (M, 10)];
+    let after = [(F, 0), (H, 0), (F, 0), (M, 9)];
+    assert_eq!(advances(&mut model, lent), [before, after].concat());
+}
+
+/// 28 comes before 19, and other calls go on.
+#[test]
+fn page_out_is_refused_while_the_flush_after_a_start_is_due() {
+    let (mut model, lent) = small(1);
+    assert_eq!(model.page_out(lent), Err(28));
+    assert_eq!(model.write(lent, 100, 0, 0, &[7]), Ok(()));
+    assert_eq!(model.page_out(lent), Err(28));
+    assert_eq!(model.advance(lent), Ok((F, 0)));
+    assert_eq!(model.page_out(lent), Ok(1));
+    assert_eq!(model.page_out(lent), Ok(2));
+    assert_eq!(model.page_out(lent), Err(19));
+}
+
+/// A snapshot does not take the place of the flush.
+#[test]
+fn page_out_is_refused_while_the_flush_after_a_header_is_due() {
+    let (mut model, lent) = small(1);
+    commit_up_to(H, &mut model, lent);
+    assert_eq!(model.page_out(lent), Err(28));
+    assert_eq!(model.write(lent, 100, 0, 0, &[8]), Ok(()));
+    assert_eq!(model.snapshot(lent), Ok(()));
+    assert_eq!(model.page_out(lent), Err(28));
+    assert_eq!(model.advance(lent), Ok((F, 0)));
+    assert_eq!(model.page_out(lent), Ok(5));
+}
+
+#[test]
+fn page_out_before_the_header_brings_no_second_flush() {
+    let (mut model, lent) = small(1);
+    commit_up_to(T, &mut model, lent);
+    assert_eq!(model.write(lent, 100, 0, 0, &[8]), Ok(()));
+    assert_eq!(model.advance(lent), Ok((F, 0)));
+    assert_eq!(model.page_out(lent), Ok(5));
+    assert_eq!(model.advance(lent), Ok((H, 0)));
+    assert_eq!(model.advance(lent), Ok((F, 0)));
 }
 
 #[test]

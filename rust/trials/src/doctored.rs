@@ -15,7 +15,7 @@ use crate::run::{run_steps, Failure};
 use crate::tally::Tally;
 use crate::trial::Trial;
 use model::geometry::BLOCK;
-use model::{Kind, Model, Store};
+use model::{Kind, Model, Phase, Store};
 
 /// Which states of the store are doctored.
 #[derive(Clone, Copy)]
@@ -24,12 +24,13 @@ pub struct State {
     committed: bool,
     due: Option<Kind>,
     pending: bool,
+    owed: bool,
 }
 
 /// Each thing that advance can have due, while a current frame waits: with
 /// nothing committed yet, with a committed generation, and with a pending one
 /// too. Then a committed directory of several blocks, without more.
-pub const STATES: [State; 15] = [
+pub const STATES: [State; 18] = [
     state(None, false),
     state(Some(Kind::M), false),
     state(Some(Kind::P), true),
@@ -38,12 +39,15 @@ pub const STATES: [State; 15] = [
     state(Some(Kind::M), true),
     state(Some(Kind::F), true),
     state(Some(Kind::H), true),
-    state(Some(Kind::F), false),
+    state(Some(Kind::F), false).owed(),
+    state(Some(Kind::F), true).owed(),
     state(None, false).fresh(),
     state(Some(Kind::P), true).fresh(),
     state(Some(Kind::D), true).fresh(),
     state(Some(Kind::T), true).fresh(),
+    state(Some(Kind::F), true).fresh(),
     state(Some(Kind::H), true).fresh(),
+    state(Some(Kind::F), false).owed().fresh(),
     State {
         size: Size::Wide,
         ..state(Some(Kind::M), false)
@@ -56,6 +60,7 @@ const fn state(due: Option<Kind>, pending: bool) -> State {
         committed: true,
         due,
         pending,
+        owed: false,
     }
 }
 
@@ -68,6 +73,11 @@ impl State {
         }
     }
 
+    /// Before the flush that is first of all after a header write or a start.
+    const fn owed(self) -> State {
+        State { owed: true, ..self }
+    }
+
     fn is(&self, store: &Store) -> bool {
         let entries = store.committed.as_ref().map(|c| c.entries.len());
         let special = match self.size {
@@ -78,6 +88,7 @@ impl State {
             && entries.is_some() == self.committed
             && store.due() == self.due
             && store.pending.is_some() == self.pending
+            && (store.phase == Phase::Owed) == self.owed
     }
 }
 

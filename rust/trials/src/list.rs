@@ -1,8 +1,7 @@
 //! A list of calls and cuts, on one card.
 
 use crate::call::Call;
-use crate::rng::Rng;
-use model::blocks::Block;
+use crate::drive::{Down, Left};
 use model::Geometry;
 use std::fmt;
 
@@ -22,19 +21,18 @@ pub enum Step {
     /// In a list the count of a key is told as its distance from the present
     /// one, so that a list keeps its sense when calls before it are dropped.
     Call { call: Call, lending: Lending },
-    /// A power cut, between calls or in one.
+    /// A power cut, between calls or in one, and a start.
     Cut {
         call: Option<Call>,
+        down: Down,
         left: Left,
-        /// Seed of which unflushed writes are down, and in which order; 0 is
-        /// all, in the order made.
-        kept: u64,
         restart: Restart,
     },
-    /// After a cut the kept commit number is rewritten, in header and trailer.
+    /// With all writes down, the kept commit number is rewritten, in header
+    /// and trailer.
     DoctorCommit(u32),
-    /// After a cut the kept count and flags of a page are rewritten, and the
-    /// spare bytes of its pot.
+    /// With all writes down, the kept count and flags of a page are rewritten,
+    /// and the spare bytes of its pot.
     DoctorPot { oid: u32, count: u32, flags: u8 },
 }
 
@@ -43,17 +41,6 @@ pub enum Step {
 pub struct Lending {
     pub card: Option<usize>,
     pub memory: Option<usize>,
-}
-
-/// What a cut leaves of the last block that is put down.
-#[derive(Clone, Copy, Debug, PartialEq)]
-pub enum Left {
-    Old,
-    New,
-    /// Any bytes, from this seed.
-    Any(u64),
-    /// Old and new bytes mixed, by this seed.
-    Mixed(u64),
 }
 
 /// The start after a cut.
@@ -82,47 +69,6 @@ impl Restart {
             again: false,
         }
     }
-}
-
-impl Left {
-    /// Block 0 is left old or new, never torn.
-    pub fn bytes(self, block: usize, old: &Block, new: &Block) -> Block {
-        match self {
-            Left::Old => *old,
-            Left::New => *new,
-            Left::Any(seed) | Left::Mixed(seed) if block == 0 => {
-                if seed.is_multiple_of(2) {
-                    *old
-                } else {
-                    *new
-                }
-            }
-            Left::Any(seed) => {
-                let mut bytes = *old;
-                Rng::new(seed).fill(&mut bytes);
-                bytes
-            }
-            Left::Mixed(seed) => mixed(seed, old, new),
-        }
-    }
-}
-
-/// A stretch of new bytes in the old block, or each byte one or the other.
-fn mixed(seed: u64, old: &Block, new: &Block) -> Block {
-    let mut rng = Rng::new(seed);
-    let mut bytes = *old;
-    if rng.chance(500) {
-        let from = rng.below(bytes.len());
-        let to = rng.between(from, bytes.len());
-        bytes[from..to].copy_from_slice(&new[from..to]);
-        return bytes;
-    }
-    for (byte, new) in bytes.iter_mut().zip(new) {
-        if rng.chance(500) {
-            *byte = *new;
-        }
-    }
-    bytes
 }
 
 /// First OID and n of each range in turn.
@@ -166,17 +112,15 @@ impl fmt::Display for Step {
             }
             Step::Cut {
                 call,
+                down,
                 left,
-                kept,
                 restart,
             } => {
-                match call {
-                    Some(call) => write!(f, "cut in {call} leaving {left:?}")?,
-                    None => write!(f, "cut")?,
+                write!(f, "cut")?;
+                if let Some(call) = call {
+                    write!(f, " in {call}")?;
                 }
-                if *kept != 0 {
-                    write!(f, " and unflushed writes by seed {kept:#x}")?;
-                }
+                write!(f, ", {down}, the last one {left:?}")?;
                 if restart.lost != 0 {
                     let seed = restart.lost;
                     write!(f, ", record and memory hold bytes of seed {seed:#x}")?;
@@ -184,10 +128,21 @@ impl fmt::Display for Step {
                 let again = if restart.again { ", cut, start" } else { "" };
                 write!(f, ", start with {} frames{again}", restart.frames)
             }
-            Step::DoctorCommit(commit) => write!(f, "cut, commit becomes {commit}, start"),
-            Step::DoctorPot { oid, count, flags } => {
-                write!(f, "cut, OID {oid} gets count {count}, flags {flags}, start")
-            }
+            Step::DoctorCommit(commit) => write!(f, "flushed, commit becomes {commit}, start"),
+            Step::DoctorPot { oid, count, flags } => write!(
+                f,
+                "flushed, OID {oid} gets count {count}, flags {flags}, start"
+            ),
+        }
+    }
+}
+
+impl fmt::Display for Down {
+    fn fmt(&self, f: &mut fmt::Formatter) -> fmt::Result {
+        match self {
+            Down::All => write!(f, "all writes down"),
+            Down::Any(seed) => write!(f, "unflushed writes down by seed {seed:#x}"),
+            Down::Blocks(blocks) => write!(f, "of unflushed writes {blocks:?} down"),
         }
     }
 }

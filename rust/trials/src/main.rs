@@ -3,7 +3,9 @@
 
 mod call;
 mod cards;
+mod cuts;
 mod doctored;
+mod drive;
 mod library;
 mod list;
 mod mix;
@@ -110,11 +112,11 @@ fn print_summary(options: &Options, lists: &Tally, doctored: &Tally, begun: Inst
         options.seed,
         lists.lists,
         lists.calls(),
-        lists.cuts,
-        lists.cuts_in_writes(),
+        lists.cuts.all,
+        lists.cuts.within_writes(),
         lists.looks
     );
-    print!("{}{}", lists.table(), lists.cuts_table());
+    print!("{}{}", lists.table(), lists.cuts.table());
     println!(
         "{} doctored records, {} doctored cards, {} calls on them",
         doctored.doctored_records,
@@ -131,7 +133,7 @@ fn verdict(options: &Options, lists: &Tally, doctored: &Tally) -> ExitCode {
     if options.lists >= DEFAULT.lists && options.part.is_none() {
         short.extend(lists.missing_from_lists());
         short.extend(doctored.missing_from_doctored());
-        if lists.calls() < LEAST_CALLS || lists.cuts_in_writes() < LEAST_CUTS {
+        if lists.calls() < LEAST_CALLS || lists.cuts.within_writes() < LEAST_CUTS {
             short.push("fewer calls or cuts than wanted".to_string());
         }
     }

@@ -4,7 +4,8 @@ mod absurd;
 
 use crate::call::Call;
 use crate::cards::{self, Size};
-use crate::list::{Left, Lending, List, Restart, Step};
+use crate::drive::{Down, Left};
+use crate::list::{Lending, List, Restart, Step};
 use crate::rng::Rng;
 use model::geometry::BLOCK;
 use model::Geometry;
@@ -100,7 +101,7 @@ impl Mix {
         let weights = rng.pick(&WEIGHTS);
         let frames = rng.pick(&[4, 6, 8, 16, 64]);
         let cuts = match size {
-            Size::Small | Size::Middle => rng.pick(&[5, 40, 100]),
+            Size::Small | Size::Middle => rng.pick(&[5, 60, 150]),
             Size::Wide => rng.pick(&[0, 1, 3]),
             Size::Large | Size::Largest => rng.pick(&[0, 12]),
         };
@@ -122,23 +123,53 @@ impl Mix {
 
     fn steps(&mut self, count: usize) -> Vec<Step> {
         let mut steps = Vec::new();
+        self.flush(&mut steps);
         while steps.len() < count {
-            if !self.rng.chance(self.turns) {
+            if self.rng.chance(self.turns) {
+                self.turn(&mut steps);
+            } else {
                 let step = self.step();
+                if let Step::Cut { .. } = step {
+                    self.unflushed(&mut steps);
+                }
                 steps.push(step);
-                continue;
             }
-            match self.rng.below(16) {
-                0..3 => self.advances(&mut steps),
-                3..5 => self.burst(Call::PageOut, 6, &mut steps),
-                5 => self.sweep(&mut steps),
-                6..10 => self.commit(&mut steps),
-                10..14 => self.cut_commit(&mut steps),
-                14 => self.doctored(&mut steps),
-                _ => self.start_or_format(&mut steps),
+            if let Some(Step::Cut { .. }) = steps.last() {
+                self.flush(&mut steps);
             }
         }
         steps
+    }
+
+    /// After most starts the flush that is due is made at once: else page-outs
+    /// are refused, and the next cut finds no writes.
+    fn flush(&mut self, steps: &mut Vec<Step>) {
+        if self.rng.chance(750) {
+            steps.push(Step::plain(Call::Advance));
+        }
+    }
+
+    /// A few block writes for a cut to find.
+    fn unflushed(&mut self, steps: &mut Vec<Step>) {
+        if self.rng.chance(500) {
+            self.write_and(Call::Snapshot, steps);
+            return self.burst(Call::Advance, 4, steps);
+        }
+        for _ in 0..self.rng.between(1, 3) {
+            self.write_and(Call::PageOut, steps);
+        }
+    }
+
+    fn turn(&mut self, steps: &mut Vec<Step>) {
+        match self.rng.below(16) {
+            0..3 => self.advances(steps),
+            3..5 => self.burst(Call::PageOut, 6, steps),
+            5 => self.sweep(steps),
+            6..10 => self.commit(steps),
+            10..14 => self.cut_commit(steps),
+            14 => self.doctored(steps),
+            _ => self.start_or_format(steps),
+        }
     }
 
     /// Writes to OIDs in a row, paged out batch by batch: the directory fills.
@@ -154,13 +185,18 @@ impl Mix {
         }
     }
 
-    /// A snapshot with something in it, and advances that may end anywhere.
+    /// A call after a write, so that there is something for it.
+    fn write_and(&mut self, call: Call, steps: &mut Vec<Step>) {
+        let oid = self.oid();
+        steps.extend([self.write(oid), call].map(Step::plain));
+    }
+
+    /// A snapshot, and advances that may end anywhere.
     fn commit(&mut self, steps: &mut Vec<Step>) {
         if self.sweeping {
             self.sweep(steps);
         }
-        let oid = self.oid();
-        steps.extend([self.write(oid), Call::Snapshot].map(Step::plain));
+        self.write_and(Call::Snapshot, steps);
         self.advances(steps);
     }
 
@@ -265,23 +301,31 @@ impl Mix {
         self.cut_in(call)
     }
 
-    /// A commit that a cut ends, mostly in a block write.
+    /// A commit that a cut ends, mostly in a block write; page-outs come
+    /// between its advances, and before some cuts a start that finds it half
+    /// made.
     fn cut_commit(&mut self, steps: &mut Vec<Step>) {
-        let oid = self.oid();
-        steps.extend([self.write(oid), Call::Snapshot].map(Step::plain));
-        let before = self.rng.below(8);
-        steps.extend(std::iter::repeat_n(Step::plain(Call::Advance), before));
+        self.write_and(Call::Snapshot, steps);
+        for _ in 0..self.rng.below(10) {
+            steps.push(Step::plain(Call::Advance));
+            if self.rng.chance(150) {
+                self.write_and(Call::PageOut, steps);
+            }
+        }
+        if self.rng.chance(200) {
+            steps.push(Step::plain(Call::Start));
+        }
         steps.push(self.cut_in(Some(Call::Advance)));
     }
 
     fn cut_in(&mut self, call: Option<Call>) -> Step {
         let seed = self.rng.next();
         let left = [Left::Old, Left::New, Left::Any(seed), Left::Mixed(seed)];
-        let kept = self.rng.next();
+        let any = Down::Any(self.rng.next());
         Step::Cut {
             call,
+            down: self.rng.pick(&[Down::All, any.clone(), any]),
             left: self.rng.pick(&left),
-            kept: self.rng.pick(&[0, kept]),
             restart: Restart {
                 frames: self.frames(),
                 lost: self.rng.pick(&[0, seed]),

@@ -1,14 +1,15 @@
 //! Runs a list: format, start, the steps, and a last start to see what is kept.
 
 use crate::call::{Answer, Call};
+use crate::cuts;
+use crate::drive::{Down, Left, Unflushed};
 use crate::library::Library;
-use crate::list::{numbers, Left, Lending, List, Restart, Step};
+use crate::list::{numbers, Lending, List, Restart, Step};
 use crate::reference::Reference;
-use crate::rng::Rng;
 use crate::stock::{fill, CARD_SLACK};
-use crate::tally::{Remains, Tally};
-use crate::trial::{Made, Trial, Unflushed};
-use model::blocks::{get, number, put, put_number, Block, TRAILER_AT};
+use crate::tally::Tally;
+use crate::trial::{Made, Trial};
+use model::blocks::{get, number, put, put_number, TRAILER_AT};
 use model::geometry::BLOCK;
 use model::{Book, Geometry, Kind, Page};
 use std::fmt;
@@ -84,14 +85,13 @@ impl<L: Library, R: Reference> Trial<'_, L, R> {
             Step::Call { call, lending } => self.call(call.clone(), *lending),
             Step::Cut {
                 call,
+                down,
                 left,
-                kept,
                 restart,
             } => {
-                self.tally.cuts += 1;
-                match call {
-                    Some(call) => self.cut_in(call.clone(), *left, *kept)?,
-                    None => self.settle(*left, *kept),
+                // Before a format is complete only the program starts anew.
+                if self.drive.can_be_cut() {
+                    self.cut(call.clone(), down, *left)?;
                 }
                 self.restart(*restart)
             }
@@ -117,13 +117,10 @@ impl<L: Library, R: Reference> Trial<'_, L, R> {
         if !made.answer.is_done() {
             return Ok(());
         }
-        self.note_write(&made);
+        self.tell_drive(&call, &made);
         self.enter(&call, &made.answer);
         match call {
             Call::Format { area, ranges } => {
-                // Nothing can be written before the first flush, and there is
-                // no cut before it that could take the format's own writes.
-                self.since.clear();
                 let blocks = lent.card / BLOCK;
                 let geometry = Geometry::new(blocks, area, &ranges);
                 self.geometry = geometry.ok_or("format is done on limits not kept")?;
@@ -154,87 +151,76 @@ impl<L: Library, R: Reference> Trial<'_, L, R> {
         }
     }
 
-    /// A call's write is not flushed; a flush leaves none.
-    fn note_write(&mut self, made: &Made) {
-        if let Answer::Wrote(Kind::F, _) = made.answer {
-            self.since.clear();
-        }
-        if let Some((block, old)) = made.overwritten {
-            let new = get(&self.stock.card, block);
-            self.since.push(Unflushed { block, old, new });
-        }
-    }
-
-    fn put_both(&mut self, block: usize, bytes: &Block) {
-        put(&mut self.stock.card, block, bytes);
-        put(&mut self.reference.model().card, block, bytes);
-    }
-
-    /// The power is cut: of the writes since the last flush any are down, in
-    /// any order, the last one torn, and the book is told what became of the
-    /// header.
-    fn settle(&mut self, left: Left, kept: u64) {
-        let made = std::mem::take(&mut self.since);
-        let header = made.iter().rev().find(|write| write.block == 0);
-        let header = header.map(|write| write.new);
-        let mut down = made.clone();
-        if kept != 0 {
-            let mut rng = Rng::new(kept);
-            for i in (1..down.len()).rev() {
-                down.swap(i, rng.below(i + 1));
+    /// What a call that is done means to the drive.
+    fn tell_drive(&mut self, call: &Call, made: &Made) {
+        match (call, made.answer) {
+            (Call::Format { .. }, _) => self.drive.format(),
+            (Call::Start, _) => self.drive.start(),
+            (Call::Advance, Answer::Wrote(Kind::F, _)) => self.drive.flush(),
+            _ => {
+                if let Some(write) = self.unflushed(call, made) {
+                    self.drive.write(write);
+                }
             }
-            down.truncate(rng.below(down.len() + 1));
-        }
-        for write in made.iter().rev() {
-            self.put_both(write.block, &write.old);
-        }
-        let last = down.len().saturating_sub(1);
-        for (i, write) in down.iter().enumerate() {
-            let before = get(&self.stock.card, write.block);
-            let bytes = match i == last {
-                true => left.bytes(write.block, &before, &write.new),
-                false => write.new,
-            };
-            self.put_both(write.block, &bytes);
-        }
-        let reached = header.is_some_and(|bytes| bytes == get(&self.stock.card, 0));
-        if let Some(book) = &mut self.book {
-            book.cut(reached);
         }
     }
 
-    /// A cut in a call: its write is one of those that are not flushed, its
-    /// answer is lost.
-    fn cut_in(&mut self, call: Call, left: Left, kept: u64) -> Result<(), String> {
-        let call = self.counted(call);
-        let made = self.make(&call, Lending::default())?;
-        let Some((block, old)) = made.overwritten else {
-            self.settle(left, kept);
-            return Ok(());
-        };
-        let new = get(&self.stock.card, block);
-        self.since.push(Unflushed { block, old, new });
-        self.settle(left, kept);
-        let bytes = get(&self.stock.card, block);
-        if let Some(remains) = remains(&bytes, &old, &new) {
-            self.tally.count_cut(&call, &made.answer, remains);
+    fn unflushed(&self, call: &Call, made: &Made) -> Option<Unflushed> {
+        let (block, old) = made.overwritten?;
+        Some(Unflushed {
+            row: cuts::row(call, &made.answer),
+            block,
+            old,
+            new: get(&self.stock.card, block),
+            started: false,
+        })
+    }
+
+    /// A cut, between calls or in one, whose answer is lost. The book is told
+    /// what became of the header write.
+    fn cut(&mut self, call: Option<Call>, down: &Down, left: Left) -> Result<(), String> {
+        let mut making = None;
+        if let Some(call) = call {
+            let call = self.counted(call);
+            let made = self.make(&call, Lending::default())?;
+            making = self.unflushed(&call, &made);
+        }
+        let found = self.drive.cut(making, down, left);
+        self.tally.cuts.count(&found);
+        self.doctor(|card| {
+            for (block, bytes) in &found.blocks {
+                put(card, *block, bytes);
+            }
+        });
+        if let Some(book) = &mut self.book {
+            book.cut(found.header_reached());
         }
         Ok(())
     }
 
-    /// Record and memory are lost, then start, which must be done.
+    /// Record and memory are lost, then start, which must be done. Without a
+    /// cut before it the drive's writes stay as they are.
     fn restart(&mut self, restart: Restart) -> Result<(), String> {
-        self.settle(Left::New, 0);
         self.frames = restart.frames;
         for _ in 0..1 + usize::from(restart.again) {
             self.stock.lose(restart.lost);
             let made = self.make(&Call::Start, Lending::default())?;
             if !made.answer.is_done() {
-                return Err(format!("start after a cut answers {}", made.answer));
+                return Err(format!("a start that must be done answers {}", made.answer));
             }
+            self.tell_drive(&Call::Start, &made);
             self.enter(&Call::Start, &made.answer);
         }
         self.look_at_all()
+    }
+
+    /// A card is doctored at rest: with all writes flushed, and started anew.
+    fn rest(&mut self) -> Result<(), String> {
+        self.drive.flush();
+        if let Some(book) = &mut self.book {
+            book.flush();
+        }
+        self.restart(Restart::plain(self.frames))
     }
 
     /// Changes both cards alike.
@@ -245,7 +231,7 @@ impl<L: Library, R: Reference> Trial<'_, L, R> {
 
     /// With commit 0 there is no trailer to rewrite, and nothing is doctored.
     fn doctor_commit(&mut self, commit: u32) -> Result<(), String> {
-        self.restart(Restart::plain(self.frames))?;
+        self.rest()?;
         let trailer = number(&self.stock.card, 8) as usize;
         if trailer != 0 {
             self.doctor(|card| {
@@ -258,7 +244,7 @@ impl<L: Library, R: Reference> Trial<'_, L, R> {
 
     fn doctor_pot(&mut self, oid: u32, count: u32, flags: u8) -> Result<(), String> {
         self.named.insert(oid);
-        self.restart(Restart::plain(self.frames))?;
+        self.rest()?;
         let Some(store) = &self.reference.model().store else {
             return Err("the reference has not started".into());
         };
@@ -287,15 +273,5 @@ impl<L: Library, R: Reference> Trial<'_, L, R> {
         }
         self.restart(Restart::plain(self.frames))?;
         self.compare_card()
-    }
-}
-
-/// What is left of a block; a write of the bytes that it had tells nothing.
-fn remains(left: &Block, old: &Block, new: &Block) -> Option<Remains> {
-    match (left == old, left == new) {
-        (true, true) => None,
-        (true, false) => Some(Remains::Old),
-        (false, true) => Some(Remains::New),
-        (false, false) => Some(Remains::Torn),
     }
 }

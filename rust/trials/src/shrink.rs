@@ -1,7 +1,8 @@
 //! Makes a list that fails short, so that it can be read.
 
 use crate::call::Call;
-use crate::list::{Left, List, Restart, Step};
+use crate::drive::{Down, Left};
+use crate::list::{List, Restart, Step};
 use model::geometry::BLOCK;
 
 /// Lists on larger cards are tried less often.
@@ -9,6 +10,8 @@ const CARD_BYTES_TRIED: usize = 8 << 30;
 const MOST_TRIES: usize = 20_000;
 /// Pairs are sought among so many first steps.
 const PAIRED: usize = 40;
+/// Cuts that put down one block alone are tried with so many first blocks.
+const ALONE: usize = 64;
 
 struct Shrinker<'f> {
     list: List,
@@ -127,10 +130,10 @@ fn simpler(step: &Step) -> Vec<Step> {
         }
         Step::Cut {
             call,
+            down,
             left,
-            kept,
             restart,
-        } => simpler_cuts(call, *left, *kept, *restart),
+        } => simpler_cuts(call, down, *left, *restart),
         Step::DoctorCommit(_) => vec![Step::DoctorCommit(1)],
         &Step::DoctorPot { oid, count, flags } => [(0, 1), (count, 1), (0, flags)]
             .map(|(count, flags)| Step::DoctorPot { oid, count, flags })
@@ -138,24 +141,28 @@ fn simpler(step: &Step) -> Vec<Step> {
     }
 }
 
-fn simpler_cuts(call: &Option<Call>, left: Left, kept: u64, restart: Restart) -> Vec<Step> {
-    let mut steps = Vec::new();
+fn simpler_cuts(call: &Option<Call>, down: &Down, left: Left, restart: Restart) -> Vec<Step> {
     let plain = Restart::plain(4);
-    let forms = [
-        (None, Left::Old, plain),
-        (call.clone(), left, plain),
-        (call.clone(), Left::Old, restart),
-        (call.clone(), Left::New, restart),
+    let call = || call.clone();
+    let mut forms = vec![
+        (None, Down::All, Left::New, plain),
+        (call(), down.clone(), left, plain),
+        (call(), down.clone(), Left::New, restart),
+        (call(), down.clone(), Left::Old, restart),
+        (call(), Down::All, left, restart),
     ];
-    for (call, left, restart) in forms {
-        steps.push(Step::Cut {
-            call,
-            left,
-            kept,
-            restart,
-        });
+    // A seed does not tell what is down.
+    let alone = (0..ALONE).map(|block| Down::Blocks(vec![block]));
+    for few in [Down::Blocks(Vec::new())].into_iter().chain(alone) {
+        forms.push((call(), few, Left::New, restart));
     }
-    steps
+    let cut = |(call, down, left, restart)| Step::Cut {
+        call,
+        down,
+        left,
+        restart,
+    };
+    forms.into_iter().map(cut).collect()
 }
 
 fn simpler_calls(call: &Call) -> impl Iterator<Item = Call> {

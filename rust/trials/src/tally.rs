@@ -1,6 +1,7 @@
 //! How often each number was answered by each call.
 
 use crate::call::{Answer, Call, NAMES};
+use crate::cuts::Cuts;
 use crate::doctored::broken::SENTENCES;
 use model::Kind;
 use std::collections::BTreeSet;
@@ -23,28 +24,6 @@ const START: usize = 1;
 /// Lists must come to a directory of four blocks.
 const DEEP: usize = 192;
 
-/// The block writes a cut can be in: advance's kinds, in `Kind`'s order, and
-/// page-out's. F writes none.
-const WRITES: [&str; 7] = ["P", "D", "T", "M", "H", "F", "page-out"];
-const HEADER: usize = Kind::H as usize;
-const FLUSH: usize = Kind::F as usize;
-const PAGE_OUT: usize = 6;
-
-/// What a cut has left of the block, in `Remains`' order.
-const REMAINS: [&str; 3] = ["old", "new", "torn"];
-
-#[derive(Clone, Copy, PartialEq)]
-pub enum Remains {
-    Old,
-    New,
-    Torn,
-}
-
-/// A header is left old or new, never torn.
-fn can_remain(write: usize, remains: usize) -> bool {
-    write != FLUSH && (write != HEADER || remains != Remains::Torn as usize)
-}
-
 /// Numbers that only doctored records and cards bring about.
 fn needs_doctoring(row: usize, number: u32) -> bool {
     number == 2 || (row == START && (6..=8).contains(&number))
@@ -57,10 +36,7 @@ pub struct Tally {
     /// The most entries of a directory.
     pub fullest: usize,
     pub lists: u64,
-    pub cuts: u64,
-    /// Cuts in block writes, by write and by what was left; where old and new
-    /// are the same bytes, only torn ones.
-    cuts_in: [[u64; 3]; 7],
+    pub cuts: Cuts,
     /// Blocks of the largest card that was started.
     largest: usize,
     /// The lengths of memory that were lent to a start, in frames.
@@ -88,19 +64,6 @@ impl Tally {
         Ok(())
     }
 
-    /// Counts a cut in a call that wrote a block.
-    pub fn count_cut(&mut self, call: &Call, answer: &Answer, remains: Remains) {
-        let write = match (call, answer) {
-            (Call::Advance, Answer::Wrote(kind, _)) => *kind as usize,
-            _ => PAGE_OUT,
-        };
-        self.cuts_in[write][remains as usize] += 1;
-    }
-
-    pub fn cuts_in_writes(&self) -> u64 {
-        self.cuts_in.iter().flatten().sum()
-    }
-
     /// A start that was done.
     pub fn count_start(&mut self, blocks: usize, frames: usize) {
         self.largest = self.largest.max(blocks);
@@ -119,15 +82,11 @@ impl Tally {
         for (sum, more) in self.kinds.iter_mut().zip(other.kinds) {
             *sum += more;
         }
-        let cuts_in = self.cuts_in.iter_mut().flatten();
-        for (sum, more) in cuts_in.zip(other.cuts_in.iter().flatten()) {
-            *sum += more;
-        }
         self.largest = self.largest.max(other.largest);
         self.frames.extend(&other.frames);
         self.fullest = self.fullest.max(other.fullest);
         self.lists += other.lists;
-        self.cuts += other.cuts;
+        self.cuts.add(&other.cuts);
         self.looks += other.looks;
         self.doctored_records += other.doctored_records;
         self.doctored_cards += other.doctored_cards;
@@ -151,32 +110,8 @@ impl Tally {
         for frames in [4, 64].iter().filter(|n| !self.frames.contains(n)) {
             missing.push(format!("a memory of {frames} frames"));
         }
-        missing.extend(self.missing_cuts());
+        missing.extend(self.cuts.missing());
         missing
-    }
-
-    fn missing_cuts(&self) -> Vec<String> {
-        let mut missing = Vec::new();
-        for (write, name) in WRITES.iter().enumerate() {
-            for (remains, left) in REMAINS.iter().enumerate() {
-                if can_remain(write, remains) && self.cuts_in[write][remains] == 0 {
-                    missing.push(format!("a cut in {name} that leaves {left}"));
-                }
-            }
-        }
-        missing
-    }
-
-    /// One line: what cuts have left of each write's block.
-    pub fn cuts_table(&self) -> String {
-        let cells = WRITES.iter().zip(self.cuts_in);
-        let cells = cells.map(|(name, left)| {
-            let left = REMAINS.iter().zip(left);
-            let left: Vec<String> = left.map(|(name, n)| format!("{name} {n}")).collect();
-            format!("{name} {}", left.join(" "))
-        });
-        let cells: Vec<String> = cells.collect();
-        format!("  cut in {}\n", cells.join(", "))
     }
 
     /// Numbers that only doctoring brings about and that did not come, and

@@ -3,6 +3,7 @@
 
 mod careless;
 mod faulty;
+mod runs;
 
 use crate::call::Call;
 use crate::cards::Size;
@@ -49,6 +50,18 @@ fn caught_by_model(fault: Fault) {
 fn caught_by_book(fault: Fault) {
     let steps = caught(|list| fails(fault, Faulty::new(fault), list));
     assert!(steps.len() <= SHORT);
+}
+
+/// As by the book, but by a run that few random lists come to.
+fn caught_by_run(fault: Fault, list: &List) {
+    let failure = |fault| {
+        let tally = &mut Tally::default();
+        run(&mut Faulty::new(fault), Faulty::new(fault), list, tally).err()
+    };
+    assert!(failure(Fault::None).is_none());
+    let failure = failure(fault).expect("the run does not fail");
+    println!("{list}{failure}");
+    assert!(failure.what.contains("the book has"));
 }
 
 #[test]
@@ -107,6 +120,30 @@ fn refusal_12_too_early() {
 fn writes_that_change_nothing() {
     caught_by_model(Fault::WritesNothing);
     caught_by_book(Fault::WritesNothing);
+}
+
+#[test]
+fn no_flush_before_the_header() {
+    caught_by_model(Fault::NoFlushBeforeHeader);
+    caught_by_book(Fault::NoFlushBeforeHeader);
+}
+
+#[test]
+fn no_flush_after_the_header() {
+    caught_by_model(Fault::NoFlushAfterHeader);
+    caught_by_book(Fault::NoFlushAfterHeader);
+}
+
+#[test]
+fn no_flush_after_a_start() {
+    caught_by_model(Fault::NoFlushAfterStart);
+    caught_by_run(Fault::NoFlushAfterStart, &runs::block_released(true));
+}
+
+#[test]
+fn page_out_while_a_flush_is_due() {
+    caught_by_model(Fault::PageOutWhileOwed);
+    caught_by_run(Fault::PageOutWhileOwed, &runs::block_released(false));
 }
 
 /// Doctoring must see a slip, and no list may.
@@ -181,6 +218,12 @@ fn what_was_never_seen_is_told() {
     assert!(!told("a cut in H that leaves torn"));
     assert!(told("a card of 65,536 blocks"));
     assert!(told("a memory of 64 frames"));
+    assert!(told("100000 cuts with two or more unflushed writes"));
+    assert!(told("all 5 orders of 2 unflushed writes"));
+    assert!(told("all 65 orders of 4 unflushed writes"));
+    assert!(told("an unflushed H found old"));
+    assert!(told("an unflushed H found new after a start"));
+    assert!(told("a start over an unflushed T, then a cut"));
     let missing = Tally::default().missing_from_doctored();
     assert!(missing.contains(&"broken: head".to_string()));
 }

@@ -2,6 +2,7 @@
 //! call's promise determines.
 
 use crate::call::{Answer, Buffer, Call};
+use crate::drive::Drive;
 use crate::library::{Library, Record, PADDING, RECORD};
 use crate::list::Lending;
 use crate::reference::{Reference, Reply};
@@ -14,7 +15,7 @@ use model::{Book, Geometry, Lent};
 use std::collections::BTreeSet;
 
 /// Cards of up to so many blocks are compared whole after each call. Of larger ones
-/// the written block and its neighbours are, and the whole card after each
+/// the reported block and its neighbours are, and the whole card after each
 /// format and start, after every 32nd call and at the end of the list.
 const COMPARED_WHOLE: usize = 128;
 /// Of cards with more pages than this only a sample of OIDs is looked at.
@@ -37,16 +38,7 @@ pub struct Trial<'t, L, R> {
     /// The OIDs that any step has named: a page that was written and lost
     /// in a cut is among them.
     pub named: BTreeSet<u32>,
-    /// The writes since the last flush.
-    pub since: Vec<Unflushed>,
-}
-
-/// A block write that is not flushed, with what the block held before it.
-#[derive(Clone, Copy)]
-pub struct Unflushed {
-    pub block: usize,
-    pub old: Block,
-    pub new: Block,
+    pub drive: Drive,
 }
 
 /// Record and memory before a call. Of memory all that is lent is kept, and a
@@ -100,7 +92,7 @@ impl<'t, L: Library, R: Reference> Trial<'t, L, R> {
             before,
             made: 0,
             named: BTreeSet::new(),
-            since: Vec::new(),
+            drive: Drive::default(),
         }
     }
 
@@ -141,12 +133,11 @@ impl<'t, L: Library, R: Reference> Trial<'t, L, R> {
         self.compare_record(call, &exchange.answer)?;
         self.compare_memory(call, &exchange.answer, lent)?;
         self.note_sizes(call, &exchange.answer, lent);
-        let wrote = exchange.reply.wrote;
         let whole =
             matches!(call, Call::Format { .. } | Call::Start) || self.made.is_multiple_of(32);
         if whole || self.geometry.blocks <= COMPARED_WHOLE {
             self.compare_card()?;
-        } else if let Some(block) = wrote {
+        } else if let Answer::Wrote(_, block) = exchange.answer {
             self.compare_blocks(block.saturating_sub(1), block + 1)?;
         }
         Ok(Made {

@@ -2,13 +2,13 @@
 
 use super::form::{
     element_at, is_known, place_at, put_element, put_place, put_size, size_at, Directory, AREA,
-    COMMIT, COMMITTED, COMMITTED_BLOCKS, CURRENT, FIRST, GEOMETRY_BLOCKS, HEAD, MIGRATED, PAGES,
-    PENDING, PHASE, RANGES, RANGE_NUMBERS, TAIL, WIDTH,
+    COMMIT, COMMITTED, COMMITTED_BLOCKS, CURRENT, FIRST, FLUSHED, GEOMETRY_BLOCKS, HEAD, MIGRATED,
+    OWED, PAGES, PENDING, PHASE, RANGES, RANGE_NUMBERS, TAIL, WIDTH, WRITING,
 };
 use crate::library::Record;
 use crate::rng::Rng;
 use model::generation::{directory_blocks, size, Changes, Committed, Pending};
-use model::{Kind, Phase, Store};
+use model::Store;
 
 /// What a run must have broken, in one state or another.
 pub const SENTENCES: [&str; 31] = [
@@ -91,9 +91,6 @@ pub fn doctored(good: &Record, store: &Store, rng: &mut Rng) -> Result<Doctored,
     breaker.places(CURRENT, &store.current);
     breaker.memory();
     breaker.phase();
-    for record in &mut breaker.made.held {
-        put_size(record, PHASE, 0);
-    }
     Ok(breaker.made)
 }
 
@@ -114,26 +111,35 @@ impl Breaker<'_> {
         self.push(sentence, what, |record| put_size(record, at, to));
     }
 
-    /// The flush before a header write comes last, the one that is owed first.
+    /// The flush before a header write comes when all else is done, the one
+    /// that is owed before anything is.
     fn phase(&mut self) {
         for other in [3, 4, 256] {
             self.set("the phase", PHASE, other);
         }
-        let all_down = self.store.pending.is_some()
-            && match self.store.phase {
-                Phase::Flushed => true,
-                Phase::Writing => self.store.due() == Some(Kind::F),
-                Phase::Owed => false,
-            };
-        if !all_down {
-            self.set("flushed, before all is down", PHASE, 1);
-        }
-        let migrated = self.store.committed.as_ref().map_or(0, |c| c.migrated);
         let pending = self.store.pending.as_ref();
-        let tail = pending.map_or(0, |p| p.directory_down + usize::from(p.trailer_down));
-        if migrated + tail > 0 {
-            self.set("owed, with work done", PHASE, 2);
+        let committed = self.store.committed.as_ref();
+        let to_copy = committed.is_some_and(|c| c.to_migrate().is_some());
+        let all_down = pending.is_some_and(|p| p.trailer_down) && !to_copy;
+        let begun = committed.is_some_and(|c| c.migrated > 0)
+            || pending.is_some_and(|p| p.directory_down > 0 || p.trailer_down);
+        self.hold_phase(WRITING);
+        if all_down {
+            self.hold_phase(FLUSHED);
+        } else {
+            self.set("flushed, before all is down", PHASE, FLUSHED);
         }
+        if begun {
+            self.set("owed, with work done", PHASE, OWED);
+        } else {
+            self.hold_phase(OWED);
+        }
+    }
+
+    fn hold_phase(&mut self, phase: usize) {
+        let mut record = *self.good;
+        put_size(&mut record, PHASE, phase);
+        self.made.held.push(record);
     }
 
     /// One element of an array made another.

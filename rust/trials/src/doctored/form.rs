@@ -33,8 +33,11 @@ pub const CURRENT: Directory = Directory {
     count: 1968,
     frames: 1992,
 };
-/// How flushes stand: 0 writing, 1 flushed for the header, 2 one is owed.
+/// How flushes stand, and its three numbers.
 pub const PHASE: usize = 2760;
+pub const WRITING: usize = 0;
+pub const FLUSHED: usize = 1;
+pub const OWED: usize = 2;
 /// Bytes of a frame's or a block's number. A place has one.
 pub const WIDTH: usize = 2;
 
@@ -123,9 +126,9 @@ pub fn is_known(record: &Record, store: &Store) -> bool {
 
 fn phase(store: &Store) -> usize {
     match store.phase {
-        Phase::Writing => 0,
-        Phase::Flushed => 1,
-        Phase::Owed => 2,
+        Phase::Writing => WRITING,
+        Phase::Flushed => FLUSHED,
+        Phase::Owed => OWED,
     }
 }
 

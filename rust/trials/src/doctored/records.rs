@@ -12,7 +12,7 @@ use crate::tally::Tally;
 use crate::trial::Trial;
 use model::blocks::{get, put};
 use model::geometry::BLOCK;
-use model::{Lent, Model};
+use model::{Kind, Lent, Model};
 
 /// Doctors the record of a store in that state.
 pub fn doctor<L: Library>(
@@ -254,12 +254,13 @@ impl<L: Library> Doctor<'_, L> {
         if self.stock.record.margin() != self.before.record.margin() {
             return Some("bytes after the record");
         }
-        let reported = match answer {
-            Answer::Wrote(_, block) => Some(block),
+        // F reports block 0 and writes none.
+        let written = match answer {
+            Answer::Wrote(kind, block) if *kind != Kind::F => Some(block),
             _ => None,
         };
-        let wrong = blocks.iter().any(|block| Some(block) != reported);
-        wrong.then_some("blocks it does not report")
+        let wrong = blocks.iter().any(|block| Some(block) != written);
+        wrong.then_some("blocks it should not")
     }
 
     fn changed_blocks(&self) -> Vec<usize> {

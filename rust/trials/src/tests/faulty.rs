@@ -1,11 +1,12 @@
-//! The model as a library, with one fault of document 01's list.
+//! The model as a library, with one fault of document 01's list or of
+//! document 02's flushes.
 
 use crate::call::{Answer, Call};
 use crate::library::{Library, Loan, RECORD};
 use crate::reference::{Reference, Reply};
 use model::blocks::{put, Block};
 use model::geometry::Place;
-use model::{Kind, Lent, Model};
+use model::{Kind, Lent, Model, Phase, Store};
 use std::collections::VecDeque;
 
 #[derive(Clone, Copy, Debug, PartialEq)]
@@ -28,6 +29,11 @@ pub enum Fault {
     /// A generation of H blocks is refused.
     TwelveTooEarly,
     WritesNothing,
+    NoFlushBeforeHeader,
+    NoFlushAfterHeader,
+    NoFlushAfterStart,
+    /// Page-out is let through while the flush after H or a start is due.
+    PageOutWhileOwed,
 }
 
 pub struct Faulty {
@@ -150,6 +156,46 @@ impl Faulty {
         reply
     }
 
+    fn phase(&self) -> Option<Phase> {
+        self.model.store.as_ref().map(|store| store.phase)
+    }
+
+    fn set_phase(&mut self, phase: Phase) {
+        if let Some(store) = &mut self.model.store {
+            store.phase = phase;
+        }
+    }
+
+    fn advance_to_header(&mut self, lent: Lent) -> Reply {
+        let due = self.model.store.as_ref().and_then(Store::due);
+        if due == Some(Kind::F) && self.phase() == Some(Phase::Writing) {
+            self.set_phase(Phase::Flushed);
+        }
+        self.model.make(&Call::Advance, lent, &[])
+    }
+
+    /// Makes an advance or a start that owes no flush.
+    fn owe_nothing(&mut self, call: &Call, lent: Lent) -> Reply {
+        let reply = self.model.make(call, lent, &[]);
+        let header = matches!(reply.answer, Answer::Wrote(Kind::H, _));
+        if header || *call == Call::Start {
+            self.set_phase(Phase::Writing);
+        }
+        reply
+    }
+
+    fn page_out_while_owed(&mut self, lent: Lent) -> Reply {
+        let owed = self.phase() == Some(Phase::Owed);
+        if owed {
+            self.set_phase(Phase::Writing);
+        }
+        let reply = self.model.make(&Call::PageOut, lent, &[]);
+        if owed {
+            self.set_phase(Phase::Owed);
+        }
+        reply
+    }
+
     /// A write or rescind with the fault in it.
     fn change(&mut self, call: &Call, lent: Lent, bytes: &[u8]) -> Reply {
         let old = self.old_bytes(call);
@@ -176,6 +222,10 @@ impl Reference for Faulty {
         match (self.fault, call) {
             (Fault::CommitZero, Call::Start) => self.start_at_commit_0(lent),
             (Fault::AllAtOnce, Call::Advance) => self.advance_at_once(lent),
+            (Fault::NoFlushBeforeHeader, Call::Advance) => self.advance_to_header(lent),
+            (Fault::NoFlushAfterHeader, Call::Advance) => self.owe_nothing(call, lent),
+            (Fault::NoFlushAfterStart, Call::Start) => self.owe_nothing(call, lent),
+            (Fault::PageOutWhileOwed, Call::PageOut) => self.page_out_while_owed(lent),
             (_, Call::Write { .. }) => self.change(call, lent, bytes),
             _ => {
                 if self.fault == Fault::NoTrailer && *call == Call::Advance {
