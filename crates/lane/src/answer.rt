@@ -9,7 +9,8 @@ pub struct Present {
     pub count: u32,
 }
 
-// Page-out's and advance's: kind 1 to 5 for P, D, T, M and H with the block written, or kind 0 and the refusal's number.
+// Page-out's and advance's: kind 1 to 5 for P, D, T, M and H with the block written, 6 for F with 0, or kind 0 and the
+// refusal's number.
 #[repr(C)]
 pub struct Report {
     pub kind: u32,
