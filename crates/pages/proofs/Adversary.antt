@@ -1,5 +1,6 @@
--- The list of demand 3 has every cut that a drive may make, between calls and in one, once the format is complete; and
--- no call flushes but where it answers F, a start neither. What a drive may do is in recovery's Adversary.
+-- The list of demand 3 has every cut that a drive may make, between calls and in one, once the format is complete, which
+-- it is at the first F; and no call flushes but where it answers F, a start neither. What a drive may do is in recovery's
+-- Adversary.
 -- Assumes nothing.
 use Prim.Native.Nat.{ℕ}
 use mathlib.Core.Bool.{Bool, true, false, _||_, false≢true}
@@ -57,6 +58,19 @@ unflushed-call w c a l l′ e k h = subst (Step (called c a) w) same (calls c a 
   where
     same : after l′ (driveAfter a (outcome c l .write) (w .drive)) (w .complete || isFlush a) ≡ after l′ (written (outcome c l .write) (w .drive)) (w .complete)
     same = rw (not-flush a h, or-false (w .complete)) refl
+
+-- F completes the format: from there on there may be cuts
+pub flush-completes : (w : World) (c : Call) (n : ℕ) (l l′ : Lent) → lentTo c w ≡ some l → Kept c l (wrote flush n) l′
+    → Step (called c (wrote flush n)) w (record { drive = settled (seen (w .drive)); held = some l′; complete = true })
+unfolding after isFlush
+flush-completes w c n l l′ e k = subst (Step (called c (wrote flush n)) w) same (calls c (wrote flush n) w l l′ e k)
+  where
+    or-true : (x : Bool) → (x || true) ≡ true
+    or-true true = refl
+    or-true false = refl
+
+    same : after l′ (settled (seen (w .drive))) (w .complete || true) ≡ after l′ (settled (seen (w .drive))) true
+    same = rw (or-true (w .complete)) refl
 
 -- a start, done or refused, at any time and without a cut: what is not flushed stays so
 pub start-anytime : (w : World) (m : List ℕ) (a : Answer) (l : Lent) → Kept (start m) (lent zeroStore m (seen (w .drive))) a l
