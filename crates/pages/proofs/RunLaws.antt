@@ -31,7 +31,7 @@ use Rattle.frames.specs.Promise.{Lent, FrameAnswer}
 use Rattle.pages.proofs.AnswerLaws.{asked-both, write-passed, rescind-passed, frames-asked, block-done, block-none, kept-done, kept-refused, lowered}
 use Rattle.pages.proofs.BookLaws.{told-refused}
 use Rattle.pages.proofs.Represents.{write-whole, rescind-whole, write-same, rescind-same, accepted-full, SameBefore, Represents, represents-flushed, represents-cut, represents-start, represents-snapshot, represents-header, nothing-represents, in-p, pot-long, page-long, write-represents, rescind-represents}
-use Rattle.pages.specs.Book.{Table, Book, Event, called, cutIn, update, presentTo, written as pageWritten, rescinded, headerReached, flushedBook, cutBook, isDone, isHeader, isFlush, told, bookAfter}
+use Rattle.pages.specs.Book.{Table, Book, Event, called, update, presentTo, written as pageWritten, rescinded, headerReached, flushedBook, cutBook, isDone, isHeader, isFlush, told, bookAfter}
 use Rattle.pages.specs.Demand3.{World, lentTo, driveAfter, Step, calls, cutWithin, cutBetween, Run, ended, then}
 use Rattle.pages.specs.Page.{Page, pageBytes, pageOf, writeFrames, rescindFrames}
 use Rattle.pages.specs.Promise.{Call, start, key, read, write, rescind, snapshot, pageOut, advance, Answer, refused, counted, filled, answered, addressOf, atPlace, presentFrames, presentCount, writeChanges, rescindChanges, asks, frameCall, doneAnswer, refusal, outcome, Kept}
@@ -304,8 +304,7 @@ module _ (m₀ card₀ : List ℕ) (accepted : firstNo (startAsks m₀ card₀) 
         go (no z) =
             let r = kept-refused c l l′ a k z in
             let none-is = block-none c l z in
-            let last : (x : Bool) → (x || false) ≡ x = λ x. or-false x in
-            rw (r .0, r .1, told-refused c (firstNo (asks c l)) b, refusal-flush c (firstNo (asks c l)), none-is, last (w .complete)) (called-refused c l e z)
+            rw (r .0, r .1, told-refused c (firstNo (asks c l)) b, refusal-flush c (firstNo (asks c l)), none-is, or-false (w .complete)) (called-refused c l e z)
 
     -- a cut
     cut-told : (reached : Bool) → Same (bookCut (s .frames .before) reached book) (cutBook (b .before) reached b) × SameBefore rs blocks area full none (cutBook (b .before) reached b .before)

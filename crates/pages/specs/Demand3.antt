@@ -8,8 +8,9 @@
 -- There is no cut before the first F is done. Any number of each, in any order. Each call is lent what the last one
 -- left; nobody else touches drive, record or memory.
 --
--- Then a start that is lent any 4 to 64 whole frames is done and writes nothing, and for every OID of the ranges key gives the count that the book keeps, and
--- read with that key the bytes that it keeps: those of the last snapshot whose header write reached the card, or of format.
+-- Then a start that is lent any 4 to 64 whole frames is done and writes nothing, and for every OID of the ranges key
+-- gives the count that the book keeps, and read with that key the bytes that it keeps: those of the last snapshot
+-- whose header write reached the card, or of format.
 -- Assumes nothing.
 use Prim.Native.Nat.{ℕ, _+_, _/_, _≤_, _<_}
 use lib.ListN.{length}

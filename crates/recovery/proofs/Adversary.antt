@@ -11,7 +11,7 @@ use mathlib.Core.Path.{_≡_, refl, ap, sym, _∙_, subst}
 use native.Mathlib.Decide.{ℕ-discrete}
 use native.Mathlib.Omega.{arith}
 use Rattle.card.specs.Block.{blockAt, putBlock}
-use Rattle.recovery.specs.Write.{BlockWrite, Drive, putAll, seen, written, Left, stopped, put, torn, Cut, headerAmong, HeaderIs, ReachedIs}
+use Rattle.recovery.specs.Write.{BlockWrite, Drive, putAll, seen, Left, stopped, put, torn, Cut, headerAmong, HeaderIs, ReachedIs}
 
 abbrev first : BlockWrite → List BlockWrite → BlockWrite
 first w [] = w

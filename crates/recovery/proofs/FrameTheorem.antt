@@ -34,7 +34,7 @@ use Rattle.recovery.specs.Directory.{byFrame, downEntries, dirOf, frameO
 use Rattle.recovery.specs.Questions.{startAsks}
 use Rattle.recovery.specs.Sound.{Ordered, Sound}
 use Rattle.recovery.specs.State.{Generation, State, places, entryCount, committedSize, directoryOf, waitingFrames, empty, readFrame}
-use Rattle.recovery.specs.Step.{page, migration, header, oldestBytes, nextMigration, advanceDue, startCommitted, startState}
+use Rattle.recovery.specs.Step.{page, migration, oldestBytes, nextMigration, advanceDue, startCommitted, startState}
 
 -- ---- a card that a start accepts, and one that a format has left
 

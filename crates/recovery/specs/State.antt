@@ -26,8 +26,8 @@ pub record Generation : Type 0 where
   pub waiting : List (List ℕ)
 
 -- How writes stand to flushes: `writing`, what advance puts down for the next header write is not flushed as a whole;
--- `flushed`, the flush just before the header write is made, and the header write is next; `owed`, a header write or
--- a start is not followed by its flush yet.
+-- `flushed`, the flush just before the header write is made, and the header write is next; `owed`, the flush after a
+-- header write or a start is still due (document 02's word).
 pub data Phase : Type 0 where
   writing flushed owed : Phase
 
