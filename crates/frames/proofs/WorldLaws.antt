@@ -1,6 +1,6 @@
 -- What a call leaves of what is held: a card, and a record that follows the book of frames or that of zeros.
 -- Assumes nothing.
-use Prim.Native.Nat.{ℕ, zero, suc, _*_, _/_}
+use Prim.Native.Nat.{ℕ, _*_, _/_}
 use borrow.Author.Tests.{eq-eqb}
 use lib.Dec.{ltb, eqb}
 use lib.ListN.{length}
@@ -16,13 +16,13 @@ use Rattle.card.specs.Block.{whole}
 use Rattle.card.specs.Bytes.{All}
 use Rattle.card.specs.Question.{Question, firstNo}
 use Rattle.card.specs.Range.{Range}
-use Rattle.frames.proofs.KeepLaws.{done-tells, refused-tells}
+use Rattle.frames.proofs.KeepLaws.{done-tells}
 use Rattle.frames.proofs.ReadyLaws.{whole-said, has-frames, no-zeros, common-both}
-use Rattle.frames.specs.Promise.{Lent, meaningOf, common, FrameCall, start, change, snapshot, pageOut, advance, FrameAnswer, refused, asks, advanceAnswer, advanceWrite, advanced, doneAnswer, doneWrite, after, handedBack, FrameKept}
+use Rattle.frames.specs.Promise.{Lent, meaningOf, common, FrameCall, start, change, snapshot, pageOut, advance, FrameAnswer, refused, asks, advanceAnswer, advanceWrite, advanced, doneAnswer, doneWrite, after, FrameKept}
 use Rattle.frames.proofs.Run.{told, Asked}
 use Rattle.record.specs.Holds.{holdsTogether}
 use Rattle.record.specs.Meaning.{zeroStore}
-use Rattle.recovery.proofs.Follows.{Stored, Follows, follows-stored, follows-card}
+use Rattle.recovery.proofs.Follows.{Stored, Follows, follows-card}
 use Rattle.recovery.proofs.FollowsStep.{follows-change, follows-snapshot, follows-advance, follows-out}
 use Rattle.recovery.proofs.FrameTheorem.{stored-start}
 use Rattle.recovery.specs.Book.{FrameBook, WholeFrame}
@@ -125,11 +125,7 @@ pub data Standing (blocks area : ℕ) (ranges : List Range) (l : Lent) (b : Fram
   live : Follows blocks area ranges (meaningOf l) (l .card) b → firstNo (common l) ≡ 0 → Standing blocks area ranges l b
 
 module _ (blocks area : ℕ) (ranges : List Range) where
-  pub standing-stored : (l : Lent) (b : FrameBook) → Standing blocks area ranges l b → Stored blocks area ranges (l .card) (b .kept)
-  standing-stored l b (idle z k) = k
-  standing-stored l b (live f h) = follows-stored blocks area ranges (meaningOf l) (l .card) b f
-
-  pub standing-follows : (l : Lent) (b : FrameBook) → Standing blocks area ranges l b → firstNo (common l) ≡ 0 → Follows blocks area ranges (meaningOf l) (l .card) b
+  standing-follows : (l : Lent) (b : FrameBook) → Standing blocks area ranges l b → firstNo (common l) ≡ 0 → Follows blocks area ranges (meaningOf l) (l .card) b
   standing-follows l b (idle z k) h = absurd (zeros-refused l z h)
   standing-follows l b (live f g) h = f
 
@@ -155,27 +151,12 @@ module _ (blocks area : ℕ) (ranges : List Range) where
   -- ---- a call
 
   module _ (l : Lent) (b : FrameBook) where
-    lent-stored : (c : FrameCall) → LentOk c l b → Stored blocks area ranges (l .card) (b .kept)
-    lent-stored (start m) o = o .1
-    lent-stored (change ws) o = standing-stored l b o
-    lent-stored snapshot o = standing-stored l b o
-    lent-stored pageOut o = standing-stored l b o
-    lent-stored advance o = standing-stored l b o
-
     lent-memory : (c : FrameCall) → LentOk c l b → LentMemory c l
     lent-memory (start m) o = o .0
     lent-memory (change ws) o = tt
     lent-memory snapshot o = tt
     lent-memory pageOut o = tt
     lent-memory advance o = tt
-
-    -- refused
-    lent-back : (c : FrameCall) → LentOk c l b → Standing blocks area ranges (handedBack c l) b
-    lent-back (start m) o = idle refl (o .1)
-    lent-back (change ws) o = o
-    lent-back snapshot o = o
-    lent-back pageOut o = o
-    lent-back advance o = o
 
     -- done
     own-follows : (own : List Question) → Standing blocks area ranges l b → firstNo (common l ++ own) ≡ 0 → Follows blocks area ranges (meaningOf l) (l .card) b × (firstNo own ≡ 0)
@@ -209,13 +190,3 @@ module _ (blocks area : ℕ) (ranges : List Range) where
       done-common asked l′ a p e =
           let q = passes-again c l l′ a (lent-memory c o) p e in
           follows-common l′ (told c a b) (done-follows asked l′ a p e) (q .0) (q .1)
-
-      -- what a call hands back
-      pub called-ok : Asked c l → (l′ : Lent) (a : FrameAnswer) → FrameKept c l a l′ → Standing blocks area ranges l′ (told c a b)
-      called-ok asked l′ a p = go (firstNo (asks c l)) refl
-        where
-          go : (n : ℕ) → firstNo (asks c l) ≡ n → Standing blocks area ranges l′ (told c a b)
-          go zero e = live (done-follows asked l′ a p e) (done-common asked l′ a p e)
-          go (suc k) e =
-              let r = refused-tells (firstNo (asks c l)) (doneAnswer c l) (refused (firstNo (asks c l))) (doneWrite c l) (after c l) p (λ q. omega (arith, e, q)) in
-              rw (r .0, told-refused c (firstNo (asks c l)) b, r .1) (lent-back c o)

@@ -47,16 +47,7 @@ pub record Follows (blocks area : ℕ) (ranges : List Range) (s : State) (c : Li
   pub flushed-after : isFlushed (s .phase) ≡ true → AllDown s
   pub owed-before : isOwed (s .phase) ≡ true → (s .migrated ≡ 0) × (s .tailDown ≡ 0)
 
--- what a card shows that has the state's geometry
-pub stored-by : {blocks area : ℕ} {ranges : List Range} {s : State} {c : List ℕ} {b : FrameBook} → Follows blocks area ranges s c b → {commit : ℕ} {g : SortedGeneration} {c′ : List ℕ} {kept : Contents}
-    → Recoverable blocks (s .area) (s .ranges) commit g c′ kept → Stored blocks area ranges c′ kept
-stored-by f {commit} {g} r = (commit, g, rw (f .area-is, f .ranges-is) at r)
-
 module _ (blocks area : ℕ) (ranges : List Range) (s : State) (c : List ℕ) (b : FrameBook) (f : Follows blocks area ranges s c b) where
-  -- its card alone shows what is kept
-  pub follows-stored : Stored blocks area ranges c (b .kept)
-  follows-stored = stored-by f (f .invariant .recoverable)
-
   pub follows-card : (length c ≡ 512 * blocks) × (11 ≤ blocks) × (blocks ≤ 65536)
   follows-card = (f .invariant .recoverable .whole, f .invariant .recoverable .many, f .invariant .recoverable .small)
 
