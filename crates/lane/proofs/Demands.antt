@@ -26,19 +26,19 @@ abbrev firstOf : Reply → ℕ
 firstOf (number n) = n
 firstOf (filling n b) = n
 firstOf (present r c) = r
-firstOf (report k b) = k
+firstOf (report k r b) = k
 
 abbrev secondOf : Reply → ℕ
 secondOf (number n) = 0
 secondOf (filling n b) = 0
 secondOf (present r c) = c
-secondOf (report k b) = b
+secondOf (report k r b) = r
 
 abbrev bufferOf : Reply → List ℕ
 bufferOf (number n) = []
 bufferOf (filling n b) = b
 bufferOf (present r c) = []
-bufferOf (report k b) = []
+bufferOf (report k r b) = []
 
 -- a start that replies 0 is done
 started : (m : List ℕ) (l l′ : Lent) (a : Answer) → number 0 ≡ replyOf (start m) a → Kept (start m) l a l′ → a ≡ done

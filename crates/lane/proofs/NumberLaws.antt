@@ -27,8 +27,8 @@ unfolding countedAs presentOf numberOf countOf
 as-present (Counts.Present n) = refl
 as-present (Counts.Refused n) = refl
 
-as-report : (a : Advance) → report (reportOf a .kind) (reportOf a .number) ≡ report (kindOf (answered (reported a))) (blockOf (answered (reported a)))
-unfolding reported answered reportOf kindOf kindNumber blockOf
+as-report : (a : Advance) → report (reportOf a .kind) (reportOf a .refusal) (reportOf a .block) ≡ replyOf advance (answered (reported a))
+unfolding replyOf reported answered reportOf kindOf kindNumber numberOf blockOf
 as-report (P b) = refl
 as-report (D b) = refl
 as-report (T b) = refl
@@ -69,15 +69,15 @@ unfolding replyOf
 linked-key o l l′ a r e k = record { answer = _; in-numbers = ap (λ (x : Present). present (x .refusal) (x .count)) e ∙ as-present a; kept = k }
 
 -- of a call that reports a block
-linked-report : (c : Call) (l l′ : Lent) (a : Advance) (r : Report) → replyOf c (answered (reported a)) ≡ report (kindOf (answered (reported a))) (blockOf (answered (reported a))) → r ≡ reportOf a
-    → Kept c l (answered (reported a)) l′ → Linked c l (report (r .kind) (r .number)) l′
-linked-report c l l′ a r writes e k = record { answer = _; in-numbers = ap (λ (x : Report). report (x .kind) (x .number)) e ∙ (as-report a ∙ sym writes); kept = k }
+linked-report : (c : Call) (l l′ : Lent) (a : Advance) (r : Report) → replyOf c (answered (reported a)) ≡ replyOf advance (answered (reported a)) → r ≡ reportOf a
+    → Kept c l (answered (reported a)) l′ → Linked c l (report (r .kind) (r .refusal) (r .block)) l′
+linked-report c l l′ a r writes e k = record { answer = _; in-numbers = ap (λ (x : Report). report (x .kind) (x .refusal) (x .block)) e ∙ (as-report a ∙ sym writes); kept = k }
 
 module _ (l l′ : Lent) (a : Advance) (r : Report) (e : r ≡ reportOf a) where
-  pub linked-pageOut : Kept pageOut l (answered (reported a)) l′ → Linked pageOut l (report (r .kind) (r .number)) l′
+  pub linked-pageOut : Kept pageOut l (answered (reported a)) l′ → Linked pageOut l (report (r .kind) (r .refusal) (r .block)) l′
   unfolding replyOf
   linked-pageOut k = linked-report pageOut l l′ a r refl e k
 
-  pub linked-advance : Kept advance l (answered (reported a)) l′ → Linked advance l (report (r .kind) (r .number)) l′
+  pub linked-advance : Kept advance l (answered (reported a)) l′ → Linked advance l (report (r .kind) (r .refusal) (r .block)) l′
   unfolding replyOf
   linked-advance k = linked-report advance l l′ a r refl e k

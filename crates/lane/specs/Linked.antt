@@ -13,12 +13,18 @@ use Rattle.pages.specs.declared.answer.Count.{Count}
 use Rattle.pages.specs.declared.answer.Count.the-variants as Counts
 use Rattle.recovery.specs.Step.{Kind, page, directory, trailer, migration, header, flush}
 
--- what C gets of a call: a number; read's number and its buffer after the call; key's refusal and count; page-out's and advance's kind and block
+-- the version of the linked interface, as include/lane.h has it: raised when the record's form, an answer or a call's
+-- arguments change
+abbrev pub version : ℕ
+version = 1
+
+-- what C gets of a call: a number; read's number and its buffer after the call; key's refusal and count; page-out's and
+-- advance's kind, refusal and block
 pub data Reply : Type 0 where
   number : ℕ → Reply
   filling : (refusal : ℕ) (buffer : List ℕ) → Reply
   present : (refusal count : ℕ) → Reply
-  report : (kind block : ℕ) → Reply
+  report : (kind refusal block : ℕ) → Reply
 
 -- the enums' cases in numbers
 unfoldable pub presentOf : Count → Present
@@ -26,13 +32,13 @@ presentOf (Counts.Present n) = record { refusal = 0; count = n }
 presentOf (Counts.Refused n) = record { refusal = n; count = 0 }
 
 unfoldable pub reportOf : Advance → Report
-reportOf (P b) = record { kind = 1; number = b }
-reportOf (D b) = record { kind = 2; number = b }
-reportOf (T b) = record { kind = 3; number = b }
-reportOf (M b) = record { kind = 4; number = b }
-reportOf (H b) = record { kind = 5; number = b }
-reportOf (F b) = record { kind = 6; number = b }
-reportOf (Refused n) = record { kind = 0; number = n }
+reportOf (P b) = record { kind = 1; refusal = 0; block = b }
+reportOf (D b) = record { kind = 2; refusal = 0; block = b }
+reportOf (T b) = record { kind = 3; refusal = 0; block = b }
+reportOf (M b) = record { kind = 4; refusal = 0; block = b }
+reportOf (H b) = record { kind = 5; refusal = 0; block = b }
+reportOf (F b) = record { kind = 6; refusal = 0; block = b }
+reportOf (Refused n) = record { kind = 0; refusal = n; block = 0 }
 
 unfoldable pub kindNumber : Kind → ℕ
 kindNumber page = 1
@@ -42,7 +48,8 @@ kindNumber migration = 4
 kindNumber header = 5
 kindNumber flush = 6
 
--- what an answer tells in numbers: its number, 0 where the call is done; a count; bytes; a kind, 0 for none, and its block, or the refusal's number
+-- what an answer tells in numbers: its number, 0 where the call is done; a count; bytes; a kind, 0 for none; its block, 0
+-- for none
 unfoldable pub numberOf : Answer → ℕ
 numberOf (refused n) = n
 numberOf done = 0
@@ -72,7 +79,7 @@ kindOf (filled n b) = 0
 kindOf (wrote k b) = kindNumber k
 
 unfoldable pub blockOf : Answer → ℕ
-blockOf (refused n) = n
+blockOf (refused n) = 0
 blockOf done = 0
 blockOf (counted c) = 0
 blockOf (filled n b) = 0
@@ -86,8 +93,8 @@ replyOf (read o n x) a = filling (numberOf a) (bytesOf a)
 replyOf (write o n at new) a = number (numberOf a)
 replyOf (rescind o n) a = number (numberOf a)
 replyOf snapshot a = number (numberOf a)
-replyOf pageOut a = report (kindOf a) (blockOf a)
-replyOf advance a = report (kindOf a) (blockOf a)
+replyOf pageOut a = report (kindOf a) (numberOf a) (blockOf a)
+replyOf advance a = report (kindOf a) (numberOf a) (blockOf a)
 
 -- THE PROMISE of a linked call c that was lent l, replies r and leaves l′: the by-value call's, its answer in numbers
 pub record Linked (c : Call) (l : Lent) (r : Reply) (l′ : Lent) : Type 0 where

@@ -15,11 +15,21 @@ use pages::rescind;
 use pages::snapshot;
 use pages::write;
 use record::store::Store;
+ghost use mathlib.Core.Path.{_≡_};
 ghost use Rattle.frames.specs.Promise.{lent, numbered, reported};
 ghost use Rattle.pages.specs.Promise as call;
 ghost use Rattle.pages.specs.Promise.{answered, countedAs, Kept, FormatKept};
 ghost use Rattle.record.specs.Meaning.{zeroStore};
-ghost use Rattle.lane.specs.Linked.{number, filling, present, report, Linked};
+ghost use Rattle.lane.specs.Linked.{version, number, filling, present, report, Linked};
+
+// The version of this interface: the record's form, the answers and the calls. A program compares it with the one of the
+// header that it was compiled with.
+#[no_mangle]
+pub extern "C" fn lane_version() -> u32
+    ensures { λ r. ⌜ r ≡ version ⌝ }
+{
+    1
+}
 
 // Format takes no record.
 #[no_mangle]
@@ -46,7 +56,8 @@ pub extern "C" fn lane_key<'s, 'a>(
     memory: &'a [u8],
     oid: u32,
 ) -> Present
-    ensures { λ r. ⌜ Linked (call.key oid) (lent (now (s .entry)) (now (memory .entry)) (now (card .entry))) (present (r .refusal) (r .count)) (lent (now (s .exit)) (now (memory .entry)) (now (card .entry))) ⌝ }
+    ensures { λ r. ⌜ Linked (call.key oid) (lent (now (s .entry)) (now (memory .entry)) (now (card .entry))) (present (r .refusal) (r .count)) (lent (now (s .exit)) (now (memory .entry)) (now (card .entry)))
+        × (now (s .exit) ≡ now (s .entry)) ⌝ }
 {
     number::key(*s, card, memory, oid)
 }
@@ -61,7 +72,7 @@ pub extern "C" fn lane_read<'s, 'a, 'b>(
     buffer: &'b mut [u8],
 ) -> u32
     ensures { λ r. ⌜ Linked (call.read oid count (now (buffer .entry))) (lent (now (s .entry)) (now (memory .entry)) (now (card .entry))) (filling r (now (buffer .exit)))
-        (lent (now (s .exit)) (now (memory .entry)) (now (card .entry))) ⌝ }
+        (lent (now (s .exit)) (now (memory .entry)) (now (card .entry))) × (now (s .exit) ≡ now (s .entry)) ⌝ }
 {
     read::read(*s, card, memory, oid, count, buffer)
 }
@@ -109,7 +120,7 @@ pub extern "C" fn lane_snapshot(s: &mut Store, card: &[u8], memory: &[u8]) -> u3
 
 #[no_mangle]
 pub extern "C" fn lane_page_out(s: &mut Store, card: &mut [u8], memory: &[u8]) -> Report
-    ensures { λ r. ⌜ Linked call.pageOut (lent (now (s .entry)) (now (memory .entry)) (now (card .entry))) (report (r .kind) (r .number)) (lent (now (s .exit)) (now (memory .entry)) (now (card .exit))) ⌝ }
+    ensures { λ r. ⌜ Linked call.pageOut (lent (now (s .entry)) (now (memory .entry)) (now (card .entry))) (report (r .kind) (r .refusal) (r .block)) (lent (now (s .exit)) (now (memory .entry)) (now (card .exit))) ⌝ }
 {
     let d = number::page_out(*s, card, memory);
     *s = d.store;
@@ -118,7 +129,7 @@ pub extern "C" fn lane_page_out(s: &mut Store, card: &mut [u8], memory: &[u8]) -
 
 #[no_mangle]
 pub extern "C" fn lane_advance(s: &mut Store, card: &mut [u8], memory: &[u8]) -> Report
-    ensures { λ r. ⌜ Linked call.advance (lent (now (s .entry)) (now (memory .entry)) (now (card .entry))) (report (r .kind) (r .number)) (lent (now (s .exit)) (now (memory .entry)) (now (card .exit))) ⌝ }
+    ensures { λ r. ⌜ Linked call.advance (lent (now (s .entry)) (now (memory .entry)) (now (card .entry))) (report (r .kind) (r .refusal) (r .block)) (lent (now (s .exit)) (now (memory .entry)) (now (card .exit))) ⌝ }
 {
     let d = number::advance(*s, card, memory);
     *s = d.store;

@@ -2,7 +2,6 @@
 use super::answer::Present;
 use super::answer::Report;
 use super::answer::Reported;
-use card::number;
 use frames::answer::Advance;
 use frames::answer::Done;
 use pages::advance;
@@ -36,15 +35,40 @@ fn report(a: Advance) -> Report
     ensures { λ r. ⌜ r ≡ reportOf a ⌝ }
 {
     match a {
-        Advance::P(b) => Report { kind: 1, number: b },
-        Advance::D(b) => Report { kind: 2, number: b },
-        Advance::T(b) => Report { kind: 3, number: b },
-        Advance::M(b) => Report { kind: 4, number: b },
-        Advance::H(b) => Report { kind: 5, number: b },
-        Advance::F(b) => Report { kind: 6, number: b },
+        Advance::P(b) => Report {
+            kind: 1,
+            refusal: 0,
+            block: b,
+        },
+        Advance::D(b) => Report {
+            kind: 2,
+            refusal: 0,
+            block: b,
+        },
+        Advance::T(b) => Report {
+            kind: 3,
+            refusal: 0,
+            block: b,
+        },
+        Advance::M(b) => Report {
+            kind: 4,
+            refusal: 0,
+            block: b,
+        },
+        Advance::H(b) => Report {
+            kind: 5,
+            refusal: 0,
+            block: b,
+        },
+        Advance::F(b) => Report {
+            kind: 6,
+            refusal: 0,
+            block: b,
+        },
         Advance::Refused(n) => Report {
             kind: 0,
-            number: number::wide(n),
+            refusal: n,
+            block: 0,
         },
     }
 }
@@ -57,7 +81,7 @@ pub fn key<'a>(s: Store, card: &'a [u8], memory: &'a [u8], oid: u32) -> Present
 }
 
 pub fn page_out(s: Store, card: &mut [u8], memory: &[u8]) -> Reported
-    ensures { λ r. ⌜ Linked pageOut (lent s (now (memory .entry)) (now (card .entry))) (report (r .answer .kind) (r .answer .number)) (lent (r .store) (now (memory .entry)) (now (card .exit))) ⌝ }
+    ensures { λ r. ⌜ Linked pageOut (lent s (now (memory .entry)) (now (card .entry))) (report (r .answer .kind) (r .answer .refusal) (r .answer .block)) (lent (r .store) (now (memory .entry)) (now (card .exit))) ⌝ }
 {
     let d = page_out::page_out(s, card, memory);
     let a = d.answer;
@@ -69,7 +93,7 @@ pub fn page_out(s: Store, card: &mut [u8], memory: &[u8]) -> Reported
 }
 
 pub fn advance(s: Store, card: &mut [u8], memory: &[u8]) -> Reported
-    ensures { λ r. ⌜ Linked advance (lent s (now (memory .entry)) (now (card .entry))) (report (r .answer .kind) (r .answer .number)) (lent (r .store) (now (memory .entry)) (now (card .exit))) ⌝ }
+    ensures { λ r. ⌜ Linked advance (lent s (now (memory .entry)) (now (card .entry))) (report (r .answer .kind) (r .answer .refusal) (r .answer .block)) (lent (r .store) (now (memory .entry)) (now (card .exit))) ⌝ }
 {
     let d = advance::advance(s, card, memory);
     let a = d.answer;

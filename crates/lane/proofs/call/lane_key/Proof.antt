@@ -20,4 +20,4 @@ pub lane-key-spec : {M : Type 1} → stated.statement M
 unfolding code.routine
 lane-key-spec 𝓤 H 𝓜 𝓖 𝓡 =
     reader S.the-type S′.the-laws S′.the-plain ps 𝓤 H 𝓜 𝓖 𝓡 code.env #lane-key code.function (code.unfolded 𝓤 H 𝓜 𝓡) core-def.name core-def.routine code.calls-lane·number·key refl (λ W. struct-lawful R.the-type R′.the-laws 𝓤 H (𝓖 .A) W) (f.clauses 𝓤 H (𝓖 .A) (𝓜 .mem) (𝓡 .run)) (core.clauses 𝓤 H (𝓖 .A) (𝓜 .mem) (𝓡 .run)) refl refl (core-thm.met 𝓤 H 𝓜 𝓖 𝓡)
-    (λ κs bs are. (refl, refl)) (λ κs x bs r ws e. e)
+    (λ κs bs are. (refl, refl)) (λ κs x bs r ws e. (e, refl))

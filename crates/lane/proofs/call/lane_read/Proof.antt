@@ -19,4 +19,4 @@ pub lane-read-spec : {M : Type 1} → stated.statement M
 unfolding code.routine
 lane-read-spec 𝓤 H 𝓜 𝓖 𝓡 =
     reader S.the-type S′.the-laws S′.the-plain ps 𝓤 H 𝓜 𝓖 𝓡 code.env #lane-read code.function (code.unfolded 𝓤 H 𝓜 𝓡) core-def.name core-def.routine code.calls-pages·read·read refl (λ W. uint-lawful 𝓤 H (𝓖 .A) W w32) (f.clauses 𝓤 H (𝓖 .A) (𝓜 .mem) (𝓡 .run)) (core.clauses 𝓤 H (𝓖 .A) (𝓜 .mem) (𝓡 .run)) refl refl (core-thm.met 𝓤 H 𝓜 𝓖 𝓡)
-    (λ κs bs are. (refl, refl)) (λ κs x bs r ws e. linked-read _ _ _ _ _ _ _ e)
+    (λ κs bs are. (refl, refl)) (λ κs x bs r ws e. (linked-read _ _ _ _ _ _ _ e, refl))

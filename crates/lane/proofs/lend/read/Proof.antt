@@ -19,4 +19,4 @@ pub read-spec : {M : Type 1} → stated.statement M
 unfolding code.routine
 read-spec 𝓤 H 𝓜 𝓖 𝓡 =
     lender S.the-type S′.the-laws S′.the-plain done ps 𝓤 H 𝓜 𝓖 𝓡 code.env #read code.function (code.unfolded 𝓤 H 𝓜 𝓡) wrapper-def.name wrapper-def.routine code.calls-lane·call·lane-read (f.clauses 𝓤 H (𝓖 .A) (𝓜 .mem) (𝓡 .run)) (wrapper.clauses 𝓤 H (𝓖 .A) (𝓜 .mem) (𝓡 .run)) refl refl (wrapper-thm.met 𝓤 H 𝓜 𝓖 𝓡)
-    (λ κs bs are. (refl, refl)) (λ κs h bs ν l γ a w ws e. e)
+    (λ κs bs are. (refl, refl)) (λ κs h bs ν l γ a w ws e. e .0)
