@@ -24,7 +24,7 @@ use Rattle.recovery.specs.Book.{FrameBook, bookCut, WholeFrame}
 use Rattle.recovery.specs.Contents.{Contents}
 use Rattle.recovery.specs.Questions.{roomAsks, snapshotAsks, pageOutAsks, advanceAsks}
 use Rattle.recovery.specs.Step.{Kind, kindWrite, advanceDue, pageOutWrite}
-use Rattle.recovery.specs.Write.{BlockWrite, putDown, Drive, seen, settled, written, Cut, ReachedIs}
+use Rattle.recovery.specs.Write.{BlockWrite, putDown, Drive, seen, settled, written, Spoilt, Cut, ReachedIs}
 
 -- the record of zeros, or one that persists and passes questions 1 to 3
 pub data Stands (blocks area : ℕ) (ranges : List Range) (l : Lent) (v : Drive) (b : FrameBook) (before : Option Contents) : Type 0 where
@@ -98,7 +98,7 @@ module _ (blocks area : ℕ) (ranges : List Range) where
     unfolding doneWrite doneAnswer advanceWrite advanceAnswer
     advance-seen k d = rw d (sym (seen-drive k (kindWrite k (meaningOf l) (seen v)) v))
 
-    advance-cut : (k : Kind) → advanceDue (meaningOf l) ≡ some k → Persists blocks area ranges (meaningOf l) v b before → (c′ : List ℕ) (reached : Bool) → Cut v (doneWrite advance (upon (seen v))) c′
+    advance-cut : (k : Kind) → advanceDue (meaningOf l) ≡ some k → Persists blocks area ranges (meaningOf l) v b before → (c′ : List ℕ) (reached : Bool) → Cut Spoilt v (doneWrite advance (upon (seen v))) c′
         → ReachedIs (written (doneWrite advance (upon (seen v))) v .since) c′ reached → Preserved blocks area ranges (settled c′) (bookCut before reached b .kept) none
     unfolding doneWrite advanceWrite
     advance-cut k d p c′ reached left r = cut-advance blocks area ranges (meaningOf l) v b before p k d c′ (rw d at left) reached (rw d at r)
@@ -136,7 +136,7 @@ module _ (blocks area : ℕ) (ranges : List Range) where
         subst Seen (sym e) (advance-seen (d .0) (d .1))
 
     -- cut off
-    lent-cut : (c : FrameCall) → LentOn c l v b before → firstNo (asks c l) ≡ 0 → (c′ : List ℕ) (reached : Bool) → Cut v (doneWrite c l) c′ → ReachedIs (written (doneWrite c l) v .since) c′ reached
+    lent-cut : (c : FrameCall) → LentOn c l v b before → firstNo (asks c l) ≡ 0 → (c′ : List ℕ) (reached : Bool) → Cut Spoilt v (doneWrite c l) c′ → ReachedIs (written (doneWrite c l) v .since) c′ reached
         → Preserved blocks area ranges (settled c′) (bookCut before reached b .kept) none
     unfolding asks doneWrite advanceWrite
     lent-cut (start m) o h c′ reached left r = preserved-cut blocks area ranges v b before (o .1) c′ left reached r
@@ -148,7 +148,7 @@ module _ (blocks area : ℕ) (ranges : List Range) where
     lent-cut advance o h c′ reached left r =
         let q = own-persists (advanceAsks (meaningOf l)) o h in
         let d = advance-due (meaningOf l) (q .1) in
-        advance-cut (d .0) (d .1) (q .0) c′ reached (subst (λ (x : List ℕ). Cut v (doneWrite advance (upon x)) c′) e left)
+        advance-cut (d .0) (d .1) (q .0) c′ reached (subst (λ (x : List ℕ). Cut Spoilt v (doneWrite advance (upon x)) c′) e left)
         (subst (λ (x : List ℕ). ReachedIs (written (doneWrite advance (upon x)) v .since) c′ reached) e r)
 
     -- ---- with its promise
@@ -173,14 +173,14 @@ module _ (blocks area : ℕ) (ranges : List Range) where
               rw (w, r .0, told-refused c (firstNo (asks c l)) b, r .1) (lent-back c o)
 
       -- what a cut in it leaves
-      pub cut-on : (c′ : List ℕ) (reached : Bool) → Cut v (outcome c l .write) c′ → ReachedIs (written (outcome c l .write) v .since) c′ reached → Preserved blocks area ranges (settled c′) (bookCut before reached b .kept) none
+      pub cut-on : (c′ : List ℕ) (reached : Bool) → Cut Spoilt v (outcome c l .write) c′ → ReachedIs (written (outcome c l .write) v .since) c′ reached → Preserved blocks area ranges (settled c′) (bookCut before reached b .kept) none
       cut-on c′ reached left r = go (firstNo (asks c l)) refl
         where
           go : (n : ℕ) → firstNo (asks c l) ≡ n → Preserved blocks area ranges (settled c′) (bookCut before reached b .kept) none
           go zero q =
               let w : outcome c l .write ≡ doneWrite c l = outcome-done _ (doneAnswer c l) (refused (firstNo (asks c l))) _ (after c l) q .1 in
-              lent-cut c o q c′ reached (subst (λ (x : Option BlockWrite). Cut v x c′) w left) (subst (λ (x : Option BlockWrite). ReachedIs (written x v .since) c′ reached) w r)
+              lent-cut c o q c′ reached (subst (λ (x : Option BlockWrite). Cut Spoilt v x c′) w left) (subst (λ (x : Option BlockWrite). ReachedIs (written x v .since) c′ reached) w r)
           go (suc k) q =
               let z : firstNo (asks c l) ≢ 0 = λ x. omega (arith, q, x) in
               let w : outcome c l .write ≡ none = outcome-refused _ (doneAnswer c l) (refused (firstNo (asks c l))) (doneWrite c l) (after c l) z .1 in
-              preserved-cut blocks area ranges v b before (lent-preserved c o) c′ (subst (λ (x : Option BlockWrite). Cut v x c′) w left) reached (subst (λ (x : Option BlockWrite). ReachedIs (written x v .since) c′ reached) w r)
+              preserved-cut blocks area ranges v b before (lent-preserved c o) c′ (subst (λ (x : Option BlockWrite). Cut Spoilt v x c′) w left) reached (subst (λ (x : Option BlockWrite). ReachedIs (written x v .since) c′ reached) w r)

@@ -20,7 +20,7 @@ use Rattle.recovery.specs.Questions.{startAsks}
 use Rattle.recovery.specs.Sound.{Sound}
 use Rattle.recovery.specs.State.{readFrame}
 use Rattle.recovery.specs.Step.{kindDrive, startState}
-use Rattle.recovery.specs.Write.{BlockWrite, Drive, seen, settled, written, Cut, ReachedIs}
+use Rattle.recovery.specs.Write.{BlockWrite, Drive, seen, settled, written, Spoilt, Cut, ReachedIs}
 
 -- the drive, what is held between calls (nothing before the first start and after a cut), the book of frames, and
 -- what was kept before a header write that is not flushed
@@ -90,9 +90,9 @@ pub data FrameStep : FrameWorld → FrameWorld → Type 0 where
   called : (c : FrameCall) (w : FrameWorld) (l l′ : Lent) (a : FrameAnswer) → lentTo c w ≡ some l → Asked c l → FrameKept c l a l′
       → FrameStep w (record { drive = driveTold a (outcome c l .write) (w .drive); held = some l′; book = told c a (w .book); before = beforeTold a (w .book) (w .before) })
   cutWithin : (c : FrameCall) (w : FrameWorld) (l : Lent) (card′ : List ℕ) (reached : Bool) → lentTo c w ≡ some l → Asked c l
-      → Cut (w .drive) (outcome c l .write) card′ → ReachedIs (written (outcome c l .write) (w .drive) .since) card′ reached
+      → Cut Spoilt (w .drive) (outcome c l .write) card′ → ReachedIs (written (outcome c l .write) (w .drive) .since) card′ reached
       → FrameStep w (record { drive = settled card′; held = none; book = bookCut (w .before) reached (w .book); before = none })
-  cutBetween : (w : FrameWorld) (card′ : List ℕ) (reached : Bool) → Cut (w .drive) none card′ → ReachedIs (w .drive .since) card′ reached
+  cutBetween : (w : FrameWorld) (card′ : List ℕ) (reached : Bool) → Cut Spoilt (w .drive) none card′ → ReachedIs (w .drive .since) card′ reached
       → FrameStep w (record { drive = settled card′; held = none; book = bookCut (w .before) reached (w .book); before = none })
 
 pub data FrameRun : FrameWorld → FrameWorld → Type 0 where

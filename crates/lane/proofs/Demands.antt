@@ -9,16 +9,17 @@ use mathlib.Core.Path.{_≡_, refl, ap, sym, subst, _∙_}
 use Rattle.card.proofs.Test.{byTest}
 use Rattle.card.specs.Question.{firstNo}
 use Rattle.frames.specs.Promise.{Lent, lent, numbered}
-use Rattle.lane.specs.Demands.{LinkedCalls, finished, next, replies, LinkedDemand2, LinkedRun, ended, calls, cuts, LinkedDemand3}
+use Rattle.lane.specs.Demands.{LinkedCalls, finished, next, replies, LinkedDemand2, LinkedRun, ended, calls, cuts, LinkedRecovers, LinkedDemand3, LinkedDemand3Spoilt}
 use Rattle.lane.specs.Linked.{Reply, number, filling, present, report, numberOf, countOf, bytesOf, replyOf}
 use Rattle.pages.proofs.Demand2.{demand-2}
-use Rattle.pages.proofs.Demand3.{demand-3}
+use Rattle.pages.proofs.Demand3.{demand-3, demand-3-spoilt}
 use Rattle.pages.specs.Book.{Event}
 use Rattle.pages.specs.Demand2 as byValue2
 use Rattle.pages.specs.Demand3 as byValue
 use Rattle.pages.specs.Demand3.{World, Run}
 use Rattle.pages.specs.Promise.{Call, start, Answer, refused, done, asks, doneAnswer, refusal, answered, Kept}
 use Rattle.record.specs.Meaning.{zeroStore}
+use Rattle.recovery.specs.Write.{Adversary, Left, Spoilt}
 
 -- ---- the parts of a reply
 
@@ -71,15 +72,16 @@ linked-demand-2 m card l₀ k cs later rs l ks =
 
 -- ---- demand 3
 
-run : (es : List Event) (u w : World) → LinkedRun es u w → Run es u w
-run _ _ _ (ended w) = byValue.ended w
-run _ _ _ (calls c r es u w l l′ e k ks) = byValue.then _ es u _ w (byValue.calls c (k .answer) u l l′ e (k .kept)) (run es _ w ks)
-run _ _ _ (cuts e es u v w is s ks) = byValue.then e es u v w s (run es v w ks)
+run : (A : Adversary) (es : List Event) (u w : World) → LinkedRun A es u w → Run A es u w
+run A _ _ _ (ended w) = byValue.ended w
+run A _ _ _ (calls c r es u w l l′ e k ks) = byValue.then _ es u _ w (byValue.calls c (k .answer) u l l′ e (k .kept)) (run A es _ w ks)
+run A _ _ _ (cuts e es u v w is s ks) = byValue.then e es u v w s (run A es v w ks)
 
-pub linked-demand-3 : LinkedDemand3
+-- of any drive of which the by-value calls recover
+linked-recovers : (A : Adversary) → byValue.Recovers A → LinkedRecovers A
 unfolding numbered answered replyOf numberOf countOf bytesOf
-linked-demand-3 area numbers before card f v e es w ks m long n l k =
-    let d = demand-3 area numbers before card f v e es w (run es _ w ks) m long (k .answer) l (k .kept) in (
+linked-recovers A recovers area numbers before card f v e es w ks m long n l k =
+    let d = recovers area numbers before card f v e es w (run A es _ w ks) m long (k .answer) l (k .kept) in (
       ap firstOf (k .in-numbers) ∙ ap numberOf (d .0),
       d .1,
       λ oid of refusal count number before after l₁ l₂ full key read.
@@ -90,3 +92,9 @@ linked-demand-3 area numbers before card f v e es w ks m long n l k =
             ap bufferOf (read .in-numbers) ∙ ap bytesOf (s .1),
           ),
     )
+
+pub linked-demand-3 : LinkedDemand3
+linked-demand-3 = linked-recovers Left demand-3
+
+pub linked-demand-3-spoilt : LinkedDemand3Spoilt
+linked-demand-3-spoilt = linked-recovers Spoilt demand-3-spoilt

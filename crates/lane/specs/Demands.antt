@@ -18,7 +18,7 @@ use Rattle.pages.specs.Plain.{plainOf}
 use Rattle.pages.specs.Promise.{Call, start, key, read, Answer, answered, outcome, FormatKept}
 use Rattle.record.specs.Meaning.{zeroStore}
 use Rattle.recovery.specs.Step.{startState}
-use Rattle.recovery.specs.Write.{Drive, seen}
+use Rattle.recovery.specs.Write.{Drive, seen, Adversary, Left, Spoilt}
 
 -- ---- demand 2: every reply is the plain machine's answer in numbers
 
@@ -45,12 +45,12 @@ IsCut (cutIn c reached) = Unit {0}
 IsCut (cut reached) = Unit {0}
 
 -- a list of events; the book is fed the answer that a reply gives in numbers
-pub data LinkedRun : List Event → World → World → Type 0 where
-  ended : (w : World) → LinkedRun [] w w
+pub data LinkedRun (A : Adversary) : List Event → World → World → Type 0 where
+  ended : (w : World) → LinkedRun A [] w w
   calls : (c : Call) (r : Reply) (es : List Event) (u w : World) (l l′ : Lent) → lentTo c u ≡ some l → (k : Linked c l r l′)
-      → LinkedRun es (record { drive = driveAfter (k .answer) (outcome c l .write) (u .drive); held = some l′; complete = u .complete || isFlush (k .answer) }) w
-      → LinkedRun (called c (k .answer) ∷ es) u w
-  cuts : (e : Event) (es : List Event) (u v w : World) → IsCut e → Step e u v → LinkedRun es v w → LinkedRun (e ∷ es) u w
+      → LinkedRun A es (record { drive = driveAfter (k .answer) (outcome c l .write) (u .drive); held = some l′; complete = u .complete || isFlush (k .answer) }) w
+      → LinkedRun A (called c (k .answer) ∷ es) u w
+  cuts : (e : Event) (es : List Event) (u v w : World) → IsCut e → Step A e u v → LinkedRun A es v w → LinkedRun A (e ∷ es) u w
 
 -- key replies 0 and the page's count, and read with that key 0 and its bytes
 abbrev pub LinkedShows : Lent → ℕ → Page → Type 0
@@ -58,10 +58,17 @@ LinkedShows l oid p = (refusal count number : ℕ) (before after : List ℕ) (l�
     → Linked (key oid) l (present refusal count) l₁ → Linked (read oid (p .count) before) l₁ (filling number after) l₂
     → (refusal ≡ 0) × (count ≡ p .count) × (number ≡ 0) × (after ≡ p .bytes)
 
-abbrev pub LinkedDemand3 : Type 0
-LinkedDemand3 = (area : ℕ) (numbers before card : List ℕ) → FormatKept area numbers before (answered (numbered 0)) card
-    → (v : Drive) → seen v ≡ card → (es : List Event) (w : World) → LinkedRun es (record { drive = v; held = none; complete = false }) w
+abbrev pub LinkedRecovers : Adversary → Type 0
+LinkedRecovers A = (area : ℕ) (numbers before card : List ℕ) → FormatKept area numbers before (answered (numbered 0)) card
+    → (v : Drive) → seen v ≡ card → (es : List Event) (w : World) → LinkedRun A es (record { drive = v; held = none; complete = false }) w
     → (m : List ℕ) → whole 4 64 (length m) ≡ true
     → (n : ℕ) (l : Lent) → Linked (start m) (lent zeroStore m (seen (w .drive))) (number n) l
     → (n ≡ 0) × (l .card ≡ seen (w .drive))
     × ((oid : ℕ) → OfRanges numbers oid → LinkedShows l oid (bookAfter es formatBook .kept oid))
+
+-- of document 02's drive, and of the stronger one
+abbrev pub LinkedDemand3 : Type 0
+LinkedDemand3 = LinkedRecovers Left
+
+abbrev pub LinkedDemand3Spoilt : Type 0
+LinkedDemand3Spoilt = LinkedRecovers Spoilt

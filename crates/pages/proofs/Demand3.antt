@@ -23,9 +23,9 @@ use Rattle.frames.proofs.Run.{startLent, stays, firstWorld, Serves}
 use Rattle.frames.specs.Promise.{Lent, lent, meaningOf, common, FrameAnswer, FrameKept}
 use Rattle.pages.proofs.AnswerLaws.{ownAsks, asked-own, change-none, block-done, kept-done, lowered}
 use Rattle.pages.proofs.FormatLaws.{format-area, format-ranges, format-accepted, format-shows, format-done}
-use Rattle.pages.proofs.RunLaws.{Beside, or-false, serves, address-is, page-shown, called-beside, run-beside}
+use Rattle.pages.proofs.RunLaws.{Beside, or-false, serves, address-is, page-shown, called-beside, run-beside, spoilt-run}
 use Rattle.pages.specs.Book.{Book, Event, formatBook, isDone, isFlush, told, bookAfter}
-use Rattle.pages.specs.Demand3.{World, Run, OfRanges, Shows, Demand3}
+use Rattle.pages.specs.Demand3.{World, Run, OfRanges, Shows, Demand3, Demand3Spoilt}
 use Rattle.pages.specs.Page.{Page, emptyPage, pageOf, formatCard}
 use Rattle.pages.specs.Promise.{start, key, read, Answer, done, counted, filled, addressOf, atPlace, presentFrames, asks, frameCall, doneAnswer, outcome, Kept, rangesIn, formatAsks, FormatKept}
 use Rattle.record.specs.Meaning.{zeroStore}
@@ -33,7 +33,7 @@ use Rattle.recovery.proofs.FrameTheorem.{accepted-stored, stored-long}
 use Rattle.recovery.specs.Questions.{startAsks, heldAsks}
 use Rattle.recovery.specs.State.{State, readFrame}
 use Rattle.recovery.specs.Step.{startState}
-use Rattle.recovery.specs.Write.{Drive, putAll, seen}
+use Rattle.recovery.specs.Write.{Drive, putAll, seen, Left, Spoilt}
 use Rattle.frames.proofs.KeepLaws as keep
 use Rattle.frames.specs.Promise as frames
 
@@ -155,19 +155,22 @@ module _ (area : ℕ) (numbers before card : List ℕ) (k : FormatKept area numb
           before-is = tt;
         }
 
-    reached : (v : Drive) → seen v ≡ card → (es : List Event) (w : World) → Run es (record { drive = v; held = none; complete = false }) w → Beside m card formatted w (bookAfter es formatBook)
+    reached : (v : Drive) → seen v ≡ card → (es : List Event) (w : World) → Run Spoilt es (record { drive = v; held = none; complete = false }) w → Beside m card formatted w (bookAfter es formatBook)
     reached v e es w run = run-beside m card formatted es _ w formatBook run (first-beside v e)
 
-pub demand-3 : Demand3
-demand-3 area numbers before card k v e es w run m memory a l p =
+pub demand-3-spoilt : Demand3Spoilt
+demand-3-spoilt area numbers before card k v e es w run m memory a l p =
     let s = reached area numbers before card k m memory v e es w run in (
       start-done m card _ w _ s m memory a l p,
       started m card _ w _ s m memory a l p .0,
       (λ o r. let q = place-of area numbers before card k o r in start-shows m card _ w _ s m memory a l p o (q .0) (q .1)),
     )
 
+pub demand-3 : Demand3
+demand-3 area numbers before card k v e es w run m memory a l p = demand-3-spoilt area numbers before card k v e es w (spoilt-run es _ w run) m memory a l p
+
 -- start accepts every card that a finished format and later calls wrote, cut off or not
 pub start-accepts : (area : ℕ) (numbers before card : List ℕ) → FormatKept area numbers before done card → (v : Drive) → seen v ≡ card → (es : List Event) (w : World)
-    → Run es (record { drive = v; held = none; complete = false }) w
+    → Run Left es (record { drive = v; held = none; complete = false }) w
     → (m : List ℕ) → whole 4 64 (length m) ≡ true → (a : Answer) (l : Lent) → Kept (start m) (lent zeroStore m (seen (w .drive))) a l → a ≡ done
 start-accepts area numbers before card k v e es w run m memory a l p = demand-3 area numbers before card k v e es w run m memory a l p .0

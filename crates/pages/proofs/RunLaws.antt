@@ -35,12 +35,12 @@ use Rattle.pages.specs.Book.{Table, Book, Event, called, update, present
 use Rattle.pages.specs.Demand3.{World, lentTo, driveAfter, Step, calls, cutWithin, cutBetween, Run, ended, then}
 use Rattle.pages.specs.Page.{Page, pageBytes, pageOf, writeFrames, rescindFrames}
 use Rattle.pages.specs.Promise.{Call, start, key, read, write, rescind, snapshot, pageOut, advance, Answer, refused, counted, filled, answered, addressOf, atPlace, presentFrames, presentCount, writeChanges, rescindChanges, asks, frameCall, doneAnswer, refusal, outcome, Kept}
-use Rattle.recovery.proofs.DriveLaws.{seen-written}
+use Rattle.recovery.proofs.DriveLaws.{seen-written, left-spoilt}
 use Rattle.recovery.specs.Book.{FrameBook, applyChanges, bookChange, bookCut, WholeFrame}
 use Rattle.recovery.specs.Contents.{Contents, FrameBytes}
 use Rattle.recovery.specs.Questions.{startAsks}
 use Rattle.recovery.specs.Step.{page, directory, trailer, migration, header, flush}
-use Rattle.recovery.specs.Write.{BlockWrite, Drive, putAll, seen, settled, written, Cut, ReachedIs}
+use Rattle.recovery.specs.Write.{BlockWrite, Drive, putAll, seen, settled, written, Left, Spoilt, Cut, ReachedIs}
 
 -- a call that is done writes the block that its frame call writes
 write-is : (c : Call) (l : Lent) → firstNo (asks c l) ≡ 0 → outcome c l .write ≡ frames.outcome (frameCall c l) l .write
@@ -316,7 +316,7 @@ module _ (m₀ card₀ : List ℕ) (accepted : firstNo (startAsks m₀ card₀) 
         gone (some k) e true = tt
         gone (some k) e false = tt
 
-    cut-between : (reached : Bool) (card : List ℕ) → w .complete ≡ true → Cut (w .drive) none card → ReachedIs (w .drive .since) card reached
+    cut-between : (reached : Bool) (card : List ℕ) → w .complete ≡ true → Cut Spoilt (w .drive) none card → ReachedIs (w .drive .since) card reached
         → Beside (record { drive = settled card; held = none; complete = true }) (cutBook (b .before) reached b)
     cut-between reached card done-first left r =
         let d = s .drive-is done-first in
@@ -331,7 +331,7 @@ module _ (m₀ card₀ : List ℕ) (accepted : firstNo (startAsks m₀ card₀) 
           before-is = t .1;
         }
 
-    cut-within : (c : Call) (reached : Bool) (l : Lent) (card : List ℕ) → w .complete ≡ true → lentTo c w ≡ some l → Cut (w .drive) (outcome c l .write) card
+    cut-within : (c : Call) (reached : Bool) (l : Lent) (card : List ℕ) → w .complete ≡ true → lentTo c w ≡ some l → Cut Spoilt (w .drive) (outcome c l .write) card
         → ReachedIs (written (outcome c l .write) (w .drive) .since) card reached → Beside (record { drive = settled card; held = none; complete = true }) (cutBook (b .before) reached b)
     cut-within c reached l card done-first e left r = go (ℕ-discrete (firstNo (asks c l)) 0)
       where
@@ -350,15 +350,26 @@ module _ (m₀ card₀ : List ℕ) (accepted : firstNo (startAsks m₀ card₀) 
             }
         go (no z) =
             let none-is = block-none c l z in
-            cut-between reached card done-first (subst (λ (x : Option BlockWrite). Cut (w .drive) x card) none-is left)
+            cut-between reached card done-first (subst (λ (x : Option BlockWrite). Cut Spoilt (w .drive) x card) none-is left)
             (subst (λ (x : Option BlockWrite). ReachedIs (written x (w .drive) .since) card reached) none-is r)
 
-  step-beside : (e : Event) (u v : World) (b : Book) → Step e u v → Beside u b → Beside v (told e b)
+  step-beside : (e : Event) (u v : World) (b : Book) → Step Spoilt e u v → Beside u b → Beside v (told e b)
   step-beside e u v b (calls c a w l l′ q k) s = called-beside u b s c a l l′ q k
   step-beside e u v b (cutWithin c reached w l card f q left r) s = unfold told in (cut-within u b s c reached l card f q left r)
   step-beside e u v b (cutBetween reached w card f left r) s = unfold told in (cut-between u b s reached card f left r)
 
-  pub run-beside : (es : List Event) (u w : World) (b : Book) → Run es u w → Beside u b → Beside w (bookAfter es b)
+  pub run-beside : (es : List Event) (u w : World) (b : Book) → Run Spoilt es u w → Beside u b → Beside w (bookAfter es b)
   unfolding bookAfter
   run-beside es u w b (ended x) s = s
   run-beside es u w b (then e fs x v y step rest) s = run-beside fs v y (told e b) rest (step-beside e x v b step s)
+
+-- ---- a list with cuts of document 02's drive is one with cuts of the stronger drive
+
+spoilt-step : (e : Event) (u v : World) → Step Left e u v → Step Spoilt e u v
+spoilt-step e u v (calls c a w l l′ q k) = calls c a w l l′ q k
+spoilt-step e u v (cutWithin c reached w l card f q left r) = cutWithin c reached w l card f q (left-spoilt card _ _ left) r
+spoilt-step e u v (cutBetween reached w card f left r) = cutBetween reached w card f (left-spoilt card _ _ left) r
+
+pub spoilt-run : (es : List Event) (u w : World) → Run Left es u w → Run Spoilt es u w
+spoilt-run es u w (ended x) = ended x
+spoilt-run es u w (then e fs x v y step rest) = then e fs x v y (spoilt-step e x v step) (spoilt-run fs v y rest)

@@ -1,30 +1,22 @@
--- A drive that puts writes down in an order of its own: what a cut leaves is a case of a stronger adversary, which
--- gives every block that was written since the last flush any bytes, but leaves block 0 old or new.
+-- A drive that puts writes down in an order of its own: what a cut leaves is a case of what the stronger drive may
+-- leave, which gives every block that was written since the last flush any bytes, but block 0.
 -- Assumes nothing.
 use Prim.Native.Nat.{ℕ, _+_, _*_, _≤_, _<_}
 use borrow.Author.Tests.{eq-eqb, ne-eqb}
 use lib.Dec.{eqb}
 use lib.ListN.{length}
 use mathlib.Core.Bool.{cond}
-use mathlib.Core.List.{List, [], _∷_, _++_}
-use mathlib.Core.Logic.{_≢_}
+use mathlib.Core.List.{List, [], _∷_, _++_, append-assoc}
+use mathlib.Core.Logic.{_≢_, inl, inr}
 use mathlib.Core.Option.{Option, some}
 use mathlib.Core.Path.{_≡_, refl, ap, sym, _∙_, subst}
 use native.Mathlib.Decide.{ℕ-discrete}
 use native.Mathlib.Omega.{arith}
-use Rattle.card.proofs.AllLaws.{all-join, all-left, all-right}
+use Rattle.card.proofs.AllLaws.{all-join, all-left, all-right, all-map}
 use Rattle.card.proofs.BlockLaws.{put-length, put-same, put-other}
 use Rattle.card.specs.Block.{blockAt, putBlock}
 use Rattle.card.specs.Bytes.{All}
-use Rattle.recovery.specs.Write.{BlockWrite, Drive, putAll, seen, written, Left, stopped, put, torn, headerAmong}
-
--- a whole block within the card
-abbrev pub Proper : ℕ → BlockWrite → Type 0
-Proper blocks w = (length (w .bytes) ≡ 512) × (w .block < blocks)
-
--- none of them writes block n
-abbrev pub Unwritten : ℕ → List BlockWrite → Type 0
-Unwritten n ws = All (λ w. n ≢ w .block) ws
+use Rattle.recovery.specs.Write.{BlockWrite, Drive, putAll, seen, written, Left, stopped, put, torn, Proper, Unwritten, OldOrNew, AnyBytes, Spoilt, headerAmong}
 
 -- all put down in their order
 pub put-joined : (ws us : List BlockWrite) (c : List ℕ) → putAll (ws ++ us) c ≡ putAll us (putAll ws c)
@@ -84,6 +76,25 @@ module _ (blocks : ℕ) where
   left-head P c′ ws c h p (torn xs us vs w d x e low long is) old new =
       let q = all-one (Proper blocks) us vs w (subst (All (Proper blocks)) e p) in
       rw is (subst P (sym (put-other c (w .block) x long (omega (arith, q .0 .1)) 0 (omega arith))) old)
+
+-- ---- every cut that document 02's drive may make is one of the stronger one's
+
+-- each write of a list is one of it
+among : (ts ws : List BlockWrite) → All (λ w. (us : List BlockWrite) × (vs : List BlockWrite) × (ts ++ ws ≡ us ++ (w ∷ vs))) ws
+among ts [] = tt
+among ts (w ∷ ws) = ((ts, ws, refl), all-map _ _ ws (λ u r. (r .0, r .1, sym (append-assoc ts (w ∷ []) ws) ∙ r .2)) (among (ts ++ (w ∷ [])) ws))
+
+pub left-spoilt : (c′ : List ℕ) (ws : List BlockWrite) (c : List ℕ) → Left c′ ws c → Spoilt c′ ws c
+left-spoilt c′ ws c l blocks whole proper = record {
+  long = left-long blocks c′ ws c whole proper l ∙ sym whole;
+  others = left-other blocks c′ ws c whole proper l;
+  head = left-head blocks (OldOrNew (blockAt c 0) ws) c′ ws c whole proper l (inl refl) (all-map _ _ ws (λ w r z. inr (r .0, r .1, w, r .2, z, refl)) (among [] ws));
+}
+
+-- what holds of block 0 as it was, and of every header write, holds of it after a cut
+pub head-is : (P : List ℕ → Type 0) (old x : List ℕ) (ws : List BlockWrite) → OldOrNew old ws x → P old → All (λ w. w .block ≡ 0 → P (w .bytes)) ws → P x
+head-is P old x ws (inl e) was new = subst P (sym e) was
+head-is P old x ws (inr (us, vs, w, e, z, is)) was new = subst P (sym is) (all-one (λ u. u .block ≡ 0 → P (u .bytes)) us vs w (subst (All (λ u. u .block ≡ 0 → P (u .bytes))) e new) .0 z)
 
 -- ---- header writes among them
 

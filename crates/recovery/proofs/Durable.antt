@@ -22,13 +22,13 @@ use Rattle.card.proofs.BlockLaws.{put-length, put-same, put-other, block-length
 use Rattle.card.specs.Block.{blockAt, putBlock}
 use Rattle.card.specs.Bytes.{All}
 use Rattle.card.specs.Range.{Range}
-use Rattle.recovery.proofs.DriveLaws.{Proper, Unwritten, seen-written, all-down, left-long, left-other, left-head, header-last}
+use Rattle.recovery.proofs.DriveLaws.{seen-written, all-down, left-spoilt, head-is, header-last}
 use Rattle.recovery.proofs.Follows.{Stored}
 use Rattle.recovery.proofs.Harmless.{Harmless, harmless-low, harmless-left, harmless-write}
 use Rattle.recovery.proofs.Invariant.{Recoverable}
 use Rattle.recovery.proofs.Sorted.{SortedGeneration}
 use Rattle.recovery.specs.Contents.{Contents}
-use Rattle.recovery.specs.Write.{BlockWrite, Drive, putAll, seen, settled, written, Left, headerAmong, HeaderIs, Reached}
+use Rattle.recovery.specs.Write.{BlockWrite, Drive, putAll, seen, settled, written, Proper, Unwritten, AnyBytes, Spoilt, headerAmong, HeaderIs, Reached}
 
 -- all but header writes do no harm to a generation
 abbrev pub Apart : ℕ → ℕ → SortedGeneration → List BlockWrite → Type 0
@@ -54,19 +54,23 @@ pub record Durable (blocks area : ℕ) (ranges : List Range) (commit : ℕ) (g :
 -- ---- cuts
 
 module _ (blocks area : ℕ) (ranges : List Range) (v : Drive) (whole : length (v .flushed) ≡ 512 * blocks) (proper : All (Proper blocks) (v .since)) where
+  -- all that is written may be down
+  abbrev seen-left : AnyBytes (seen v) (v .since) (v .flushed)
+  seen-left = left-spoilt (seen v) (v .since) (v .flushed) (all-down (v .since) (v .flushed)) blocks whole proper
+
   seen-long : length (seen v) ≡ 512 * blocks
-  seen-long = left-long blocks (seen v) (v .since) (v .flushed) whole proper (all-down (v .since) (v .flushed))
+  seen-long = seen-left .long ∙ whole
 
   -- what is not written stands
   pub seen-other : (n : ℕ) → Unwritten n (v .since) → blockAt (seen v) n ≡ blockAt (v .flushed) n
-  seen-other n un = left-other blocks (seen v) (v .since) (v .flushed) whole proper (all-down (v .since) (v .flushed)) n un
+  seen-other n un = seen-left .others n un
 
-  module _ (c′ : List ℕ) (l : Left c′ (v .since) (v .flushed)) where
+  module _ (c′ : List ℕ) (l : Spoilt c′ (v .since) (v .flushed)) where
     cut-long : length c′ ≡ 512 * blocks
-    cut-long = left-long blocks c′ (v .since) (v .flushed) whole proper l
+    cut-long = l blocks whole proper .long ∙ whole
 
     cut-unwritten : (n : ℕ) → Unwritten n (v .since) → blockAt c′ n ≡ blockAt (seen v) n
-    cut-unwritten n un = left-other blocks c′ (v .since) (v .flushed) whole proper l n un ∙ sym (seen-other n un)
+    cut-unwritten n un = l blocks whole proper .others n un ∙ sym (seen-other n un)
 
     -- all that could do harm is as it is seen
     cut-other : (g : SortedGeneration) → Apart blocks area g (v .since) → (n : ℕ) → 1 ≤ n → (Harmless blocks area g n → ⊥) → blockAt c′ n ≡ blockAt (seen v) n
@@ -93,7 +97,7 @@ module _ (blocks area : ℕ) (ranges : List Range) (v : Drive) (whole : length (
         )
 
 pub durable-cut : (blocks area : ℕ) (ranges : List Range) (commit : ℕ) (g : SortedGeneration) (v : Drive) (kept : Contents) (before : Option Contents) → Durable blocks area ranges commit g v kept before
-    → (c′ : List ℕ) → Left c′ (v .since) (v .flushed)
+    → (c′ : List ℕ) → Spoilt c′ (v .since) (v .flushed)
     → (Reached (v .since) c′ → Stored blocks area ranges c′ kept) × ((Reached (v .since) c′ → ⊥) → Stored blocks area ranges c′ (Option·getD before kept))
 durable-cut blocks area ranges commit g v kept none d c′ l =
     let un : Unwritten 0 (v .since) = all-map (λ w. 1 ≤ w .block) (λ w. 0 ≢ w .block) (v .since) (λ w h. omega (arith, h)) (d .earlier) in
@@ -102,7 +106,7 @@ durable-cut blocks area ranges commit g v kept none d c′ l =
 durable-cut blocks area ranges commit g v kept (some k) d c′ l =
     let e = d .earlier in
     let found : (blockAt c′ 0 ≡ blockAt (v .flushed) 0) ⊎ (blockAt c′ 0 ≡ blockAt (seen v) 0) =
-    left-head blocks (λ x. (x ≡ blockAt (v .flushed) 0) ⊎ (x ≡ blockAt (seen v) 0)) c′ (v .since) (v .flushed) (d .whole) (d .proper) l (inl refl)
+    head-is (λ x. (x ≡ blockAt (v .flushed) 0) ⊎ (x ≡ blockAt (seen v) 0)) (blockAt (v .flushed) 0) (blockAt c′ 0) (v .since) (l blocks (d .whole) (d .proper) .head) (inl refl)
     (all-map (λ w. w .block ≡ 0 → w .bytes ≡ blockAt (seen v) 0) (λ w. w .block ≡ 0 → (w .bytes ≡ blockAt (v .flushed) 0) ⊎ (w .bytes ≡ blockAt (seen v) 0)) (v .since) (λ w h z. inr (h z)) (e .4)) in (
       (λ r. cut-new blocks area ranges v (d .whole) (d .proper) c′ l commit g kept (d .card) (d .apart) (subst (λ (o : Option (List ℕ)). HeaderIs o c′) (e .5) r)),
       (λ n. ⊎-elim (λ old. cut-old blocks area ranges v (d .whole) (d .proper) c′ l (e .0) (e .1) k (e .2) (e .3) old)

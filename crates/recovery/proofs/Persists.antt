@@ -41,7 +41,7 @@ use Rattle.recovery.specs.Contents.{Contents, FrameBytes}
 use Rattle.recovery.specs.Questions.{roomAsks, snapshotAsks, pageOutAsks}
 use Rattle.recovery.specs.State.{State, directoryOf, flushed, isOwed, isFlushed}
 use Rattle.recovery.specs.Step.{afterChange, afterSnapshot, Kind, page, directory, trailer, migration, header, flush, outWrite, tailBytes, trailerBlockNo, nextMigration, kindWrite, kindPut, kindDrive, afterKind, advanceDue, pageOutWrite, afterPageOut, startState}
-use Rattle.recovery.specs.Write.{BlockWrite, putDown, Drive, putAll, seen, settled, written, Left, Cut, HeaderIs, Reached, ReachedIs}
+use Rattle.recovery.specs.Write.{BlockWrite, putDown, Drive, putAll, seen, settled, written, Spoilt, Cut, HeaderIs, Reached, ReachedIs}
 
 -- the card that is seen after a kind
 pub seen-drive : (k : Kind) (w : BlockWrite) (v : Drive) → seen (kindDrive k (kindPut k w) v) ≡ putDown (kindPut k w) (seen v)
@@ -94,7 +94,7 @@ module _ (blocks area : ℕ) (ranges : List Range) where
   none-reached v kept k c′ r = subst (λ (o : Option (List ℕ)). HeaderIs o c′) (no-header none (v .since) (k .2 .earlier)) r
 
   -- a cut between calls, and one in a call, whose write is then one of those that are not flushed
-  pub preserved-cut : (v : Drive) (b : FrameBook) (before : Option Contents) → Preserved blocks area ranges v (b .kept) before → (c′ : List ℕ) → Left c′ (v .since) (v .flushed) → (reached : Bool)
+  pub preserved-cut : (v : Drive) (b : FrameBook) (before : Option Contents) → Preserved blocks area ranges v (b .kept) before → (c′ : List ℕ) → Spoilt c′ (v .since) (v .flushed) → (reached : Bool)
       → ReachedIs (v .since) c′ reached → Preserved blocks area ranges (settled c′) (bookCut before reached b .kept) none
   preserved-cut v b none k c′ l reached r =
       let t = durable-cut blocks area ranges (k .0) (k .1) v (b .kept) none (k .2) c′ l in
@@ -104,7 +104,7 @@ module _ (blocks area : ℕ) (ranges : List Range) where
       settled-preserved c′ (bookCut (some e) reached b .kept) (⊎-elim (λ q. rw (q .1) (t .0 (q .0))) (λ q. rw (q .1) (t .1 (q .0))) r)
 
   -- a cut in a header write: it is found, and what was marked is kept, or it is not
-  header-cut : (v : Drive) (b : FrameBook) → Preserved blocks area ranges v (markedOr b) (some (b .kept)) → (c′ : List ℕ) → Left c′ (v .since) (v .flushed) → (reached : Bool)
+  header-cut : (v : Drive) (b : FrameBook) → Preserved blocks area ranges v (markedOr b) (some (b .kept)) → (c′ : List ℕ) → Spoilt c′ (v .since) (v .flushed) → (reached : Bool)
       → ReachedIs (v .since) c′ reached → Preserved blocks area ranges (settled c′) (bookCut none reached b .kept) none
   header-cut v b k c′ l reached r =
       let t = durable-cut blocks area ranges (k .0) (k .1) v (markedOr b) (some (b .kept)) (k .2) c′ l in
@@ -246,14 +246,14 @@ module _ (blocks area : ℕ) (ranges : List Range) where
         record { follows = rw (seen-drive k (kindWrite k s (seen v)) v) (follows-advance blocks area ranges s (seen v) b f k e); durable = n .0; clear = n .1; none-before = n .2 }
 
     -- a cut in it
-    pub cut-advance : (k : Kind) → advanceDue s ≡ some k → (c′ : List ℕ) → Cut v (kindPut k (kindWrite k s (seen v))) c′ → (reached : Bool) → ReachedIs (written (kindPut k (kindWrite k s (seen v))) v .since) c′ reached
+    pub cut-advance : (k : Kind) → advanceDue s ≡ some k → (c′ : List ℕ) → Cut Spoilt v (kindPut k (kindWrite k s (seen v))) c′ → (reached : Bool) → ReachedIs (written (kindPut k (kindWrite k s (seen v))) v .since) c′ reached
         → Preserved blocks area ranges (settled c′) (bookCut before reached b .kept) none
     cut-advance k e c′ l reached r = go k (subst (FactsOf s) e (due-facts s)) l r
       where
-        quiet : (w : BlockWrite) → isOwed (s .phase) ≡ false → Quiet w → Cut v (some w) c′ → ReachedIs (written (some w) v .since) c′ reached → Preserved blocks area ranges (settled c′) (bookCut before reached b .kept) none
+        quiet : (w : BlockWrite) → isOwed (s .phase) ≡ false → Quiet w → Cut Spoilt v (some w) c′ → ReachedIs (written (some w) v .since) c′ reached → Preserved blocks area ranges (settled c′) (bookCut before reached b .kept) none
         quiet w calm q l r = preserved-cut (written (some w) v) b before (s .commit, sortedCommitted (s .committed), wrote-durable calm w (q .0) (q .1)) c′ l reached r
 
-        go : (j : Kind) → Facts s j → Cut v (kindPut j (kindWrite j s (seen v))) c′ → ReachedIs (written (kindPut j (kindWrite j s (seen v))) v .since) c′ reached
+        go : (j : Kind) → Facts s j → Cut Spoilt v (kindPut j (kindWrite j s (seen v))) c′ → ReachedIs (written (kindPut j (kindWrite j s (seen v))) v .since) c′ reached
             → Preserved blocks area ranges (settled c′) (bookCut before reached b .kept) none
         go page h l r = unfold kindPut in (quiet (kindWrite page s (seen v)) (h .1) (quiet-page h) l r)
         go directory h l r = unfold kindPut in (quiet (kindWrite directory s (seen v)) (h .3) (quiet-directory h) l r)
@@ -308,6 +308,6 @@ module _ (blocks area : ℕ) (ranges : List Range) where
       pub persists-out : Persists blocks area ranges (afterPageOut s) (written (some (pageOutWrite s)) v) b before
       persists-out = record { follows = rw (seen-written v (pageOutWrite s)) (follows-out blocks area ranges s (seen v) b f ok); durable = out-next .0; clear = out-next .1; none-before = out-next .2 }
 
-      pub cut-out : (c′ : List ℕ) → Cut v (some (pageOutWrite s)) c′ → (reached : Bool) → ReachedIs (written (some (pageOutWrite s)) v .since) c′ reached
+      pub cut-out : (c′ : List ℕ) → Cut Spoilt v (some (pageOutWrite s)) c′ → (reached : Bool) → ReachedIs (written (some (pageOutWrite s)) v .since) c′ reached
           → Preserved blocks area ranges (settled c′) (bookCut before reached b .kept) none
       cut-out c′ l reached r = preserved-cut (written (some (pageOutWrite s)) v) b before (s .commit, sortedCommitted (s .committed), out-durable) c′ l reached r
