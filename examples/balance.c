@@ -31,11 +31,11 @@ static void fail(const char *what, const char *why)
     exit(1);
 }
 
-static void done(const char *call, size_t refusal)
+static void done(const char *call, uint32_t refusal)
 {
     if (refusal == LANE_DONE)
         return;
-    fprintf(stderr, "balance: %s: refused %zu\n", call, refusal);
+    fprintf(stderr, "balance: %s: refused %u: %s\n", call, refusal, lane_refusal_text(refusal));
     exit(1);
 }
 
@@ -102,7 +102,7 @@ static uint64_t balance(controller *c, uint32_t oid, uint32_t count)
 
 static void report(lane_report r, const char *how)
 {
-    printf("%c %zu %s\n", " PDTMHF"[r.kind], r.number, how);
+    printf("%c %zu %s\n", " PDTMHF"[r.kind], r.block, how);
 }
 
 /* Dies as in a power cut: a flush is not made, block 0 is still old, any other block has no sense in its first half. */
@@ -115,9 +115,9 @@ static void cut(const controller *c, lane_report r)
         how = "not written";
     } else {
         uint8_t torn[LANE_BLOCK];
-        memcpy(torn, c->card + r.number * LANE_BLOCK, LANE_BLOCK);
+        memcpy(torn, c->card + r.block * LANE_BLOCK, LANE_BLOCK);
         memset(torn, 0xFF, LANE_BLOCK / 2);
-        put(c, torn, LANE_BLOCK, r.number);
+        put(c, torn, LANE_BLOCK, r.block);
     }
     report(r, how);
     fflush(stdout);
@@ -130,17 +130,16 @@ static void advance(controller *c, uint64_t kill_at)
     for (uint64_t n = 1;; n++) {
         lane_report r =
             lane_advance(&c->store, c->card, sizeof c->card, c->memory, sizeof c->memory);
-        if (r.kind == LANE_REFUSED && r.number == LANE_NOTHING_DUE)
+        if (r.refusal == LANE_NOTHING_DUE)
             return;
-        if (r.kind == LANE_REFUSED)
-            done("advance", r.number);
+        done("advance", r.refusal);
         if (n == kill_at)
             cut(c, r);
         if (r.kind == LANE_F) {
             flush(c);
             report(r, "flushed");
         } else {
-            put(c, c->card + r.number * LANE_BLOCK, LANE_BLOCK, r.number);
+            put(c, c->card + r.block * LANE_BLOCK, LANE_BLOCK, r.block);
             report(r, "written");
         }
     }

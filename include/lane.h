@@ -1,6 +1,10 @@
 /*
- * The lane page store: nine calls over a card, lent memory and one record.
+ * The lane page store for C: nine calls over a card, lent memory and one record.
  * Link target/staticlib/liblane.a (x86-64 Linux), made by `rt staticlib lane`.
+ *
+ * A program compares lane_version() with LANE_VERSION at its start, and stops if they differ. It
+ * formats a card once. After every power-up it starts, and then lends card, memory and record to
+ * each call.
  *
  * LANE_DONE is done; any other answer is the number of the first question that was answered "no".
  * A refused call changes nothing, but that a refused lane_start makes every field of the record 0.
@@ -8,26 +12,54 @@
  * What the caller owes:
  * - Every pointer is valid for its length, and not null for length 0 either.
  * - The record, and a slice that is not const, overlap nothing else that is lent.
- * - One call at a time on a record.
+ * - The record is aligned as its struct, ranges as uint32_t. Card, memory, buffer and bytes need no
+ *   alignment: the aligned block below is the device's need.
  * - The record is kept and lent; its fields are neither read nor changed. Their form is free.
  * - Between calls, card and memory stay as the last call left them.
  *
+ * Threads: records are independent of each other, since the library has no global state. Two threads
+ * may use two records at once, each with its own card and memory. One record is used by one call at
+ * a time, but that lane_key and lane_read, which take it const, may run beside each other on it,
+ * each read with its own buffer.
+ *
+ * A call takes less than 16 KiB of stack (measured; the proofs say nothing of the stack). It
+ * allocates nothing, makes no system call, and needs memcpy, memmove and memset from the program.
+ *
  * What the caller owes a device, where the card is a copy of its blocks:
- * - P, D, T, M and H, from lane_page_out or lane_advance: the block reported is written to the
- *   device, with no flush. The drive may keep it in its cache and put writes down in any order.
+ * - It is opened with O_RDWR | O_DIRECT (and O_CLOEXEC). Through the page cache a write of one block
+ *   brings down the whole memory page, 8 blocks, so that blocks 1 to 7 would rewrite block 0, long
+ *   flushed, and a cut may tear it. Where the file system knows no O_DIRECT (EINVAL), a program says
+ *   so and may go on without; such a card survives a kill of the program, and has no promise at a
+ *   power cut.
+ * - The whole card is read that way too, into a buffer aligned to 4096 bytes, so that lane_start is
+ *   lent what the device has and not what the page cache has.
+ * - P, D, T, M and H, from lane_page_out or lane_advance: the block reported is copied into ONE block
+ *   aligned to 4096 bytes (O_DIRECT asks for it) and written by one pwrite of LANE_BLOCK bytes at
+ *   block * LANE_BLOCK, with no flush. The drive may keep it in its cache and put writes down in any
+ *   order.
  * - F, from lane_advance: the device is flushed (fdatasync) before the next call, and NO BLOCK IS
  *   WRITTEN. F REPORTS BLOCK 0: LOOK AT THE KIND FIRST. A PROGRAM THAT WRITES "THE BLOCK REPORTED"
  *   THERE REWRITES THE HEADER AND FLUSHES NOTHING.
- * - A snapshot is safe once the F AFTER its H is done. From H until then a cut may find it or not.
- * - After lane_format the whole card, in three steps with a flush (fdatasync) after each: block 0
- *   cleared, all other blocks, block 0. So lane_start refuses a card whose format was cut.
- * - If a write or a flush fails, the copy is ahead of the device: read it again, and start.
  * - No other block is written, not even with the bytes it has: a cut could tear it.
+ * - A snapshot is safe once the F AFTER its H is done. From H until then a cut may find it or not.
+ * - After lane_format the whole card, in three steps with a flush after each: block 0 cleared, all
+ *   other blocks, block 0. So lane_start refuses a card whose format was cut.
+ * - After a write that failed or was short, or a flush that failed, NO FURTHER CALL IS MADE: the copy
+ *   is ahead of the device, and a second flush may be done though blocks of the first are lost. The
+ *   program closes the device, opens and reads it anew, and starts.
+ *
  * What the device owes at a cut: of the blocks written since the last flush any are down, in any
  * order, the last one torn; block 0 is whole, old or new; every other block stands as it was, and a
  * flush that is done has put down all that was written before it.
+ *
+ * So its physical sector must be 512 bytes, or it must put 512 bytes down as one: a drive with sectors
+ * of 4096 bytes that takes writes of 512 (512e) rewrites the seven neighbours of each block, and a
+ * card there has no promise. `blockdev --getpbsz /dev/X`, /sys/block/X/queue/physical_block_size and
+ * ioctl BLKPBSZGET tell it. The logical sector (--getss, logical_block_size, BLKSSZGET) must be 512 too,
+ * else O_DIRECT refuses writes of 512 bytes (EINVAL).
+ *
  * A shared mapping of the device does not do: the system may write it back during a call, block 0
- * half made, and puts down whole memory pages. So lend a buffer, and write the block.
+ * half made, and puts down whole memory pages.
  */
 #ifndef LANE_INCLUDED
 #define LANE_INCLUDED
@@ -42,34 +74,83 @@ extern "C" {
 #define LANE_SIZE(type, bytes) _Static_assert(sizeof(type) == (bytes), #type)
 #endif
 
-/* Bytes of a block, a page and a memory frame. */
-enum { LANE_BLOCK = 512 };
+/* The version of this interface: the record's form, the answers and the calls' arguments. */
+#define LANE_VERSION 1
 
-/* What a call answers, by document 01's numbers. */
+/* The library's LANE_VERSION. With another one no answer can be trusted. */
+uint32_t lane_version(void);
+
+/* Limits. */
+#define LANE_BLOCK 512      /* bytes of a block, a page and a memory frame */
+#define LANE_CARD_MIN 11    /* blocks of a card */
+#define LANE_CARD_MAX 65536
+#define LANE_AREA_MIN 8     /* A: blocks of the checkpoint area, half of which, rounded down, is H */
+#define LANE_AREA_MAX 512
+#define LANE_RANGES_MAX 8   /* home ranges of a card, at least 1 */
+#define LANE_FRAMES_MIN 4   /* memory frames */
+#define LANE_FRAMES_MAX 64
+#define LANE_RUN 102        /* pages that share a pot, the block of their counts and flags */
+
+/* Blocks that a range of so many pages takes, its pots counted. A card has 1 + A of them more. */
+#define LANE_RANGE_BLOCKS(pages) ((size_t)(pages) + ((size_t)(pages) + LANE_RUN - 1) / LANE_RUN)
+
+/* What a call answers, by document 01's numbers; lane_refusal_text has their meaning, here stands
+   what to do. After a good start 1 to 3, and after a good format 4 to 8, say that something else
+   wrote record, card or memory, or that another slice was lent. */
 enum lane_refusal {
-    LANE_DONE = 0,         /* no question was answered "no" */
-    LANE_MEMORY = 1,       /* memory is not 4 to 64 whole frames, or not as long as the record says */
-    LANE_RECORD = 2,       /* the record does not hold together */
-    LANE_CARD = 3,         /* the card is not 11 to 65,536 whole blocks, or not as many as the record says */
-    LANE_LAYOUT = 4,       /* the layout is not 1 */
-    LANE_GEOMETRY = 5,     /* A or the ranges break the limits, or do not fill the card exactly */
-    LANE_COMMIT = 6,       /* commit and trailer are not both 0, nor commit above 0 and trailer in 1 to A */
-    LANE_TRAILER = 7,      /* the trailer is not that commit's, or its numbers do not fit */
-    LANE_DIRECTORY = 8,    /* entries do not rise, or name no home frame or no block among the p */
-    LANE_OID = 9,          /* the OID is in no range */
-    LANE_COUNT = 10,       /* the key's count is not the present one */
-    LANE_LENGTH = 11,      /* the buffer is not 512 bytes, or offset + length is above 512 */
-    LANE_HALF = 12,        /* the current size would be above H, half the area */
-    LANE_AREA = 13,        /* all three sizes together would be above A */
-    LANE_FULL = 14,        /* memory has too few free frames */
-    LANE_COUNT_END = 15,   /* the count is 4,294,967,295 */
-    LANE_PENDING = 16,     /* a snapshot is pending */
-    LANE_UNCHANGED = 17,   /* no frame has changed since the last snapshot or start */
-    LANE_COMMIT_END = 18,  /* the commit number is 4,294,967,295 */
-    LANE_NONE_WAITS = 19,  /* no frame waits */
-    LANE_NOTHING_DUE = 20, /* no block write and no flush is due */
-    LANE_FLUSH_DUE = 28,   /* the flush after a header write or a start is due */
+    LANE_DONE = 0,
+    LANE_MEMORY = 1,           /* lend the memory that start was lent; after a refused start, start again */
+    LANE_RECORD = 2,           /* lend the record that the last call left; if it is lost, start again */
+    LANE_CARD = 3,             /* lend the whole card, the one that was started */
+    LANE_LAYOUT = 4,           /* never formatted, its format was cut, or of another version */
+    LANE_GEOMETRY = 5,         /* format with ranges that fill the card; at start, the header is damaged */
+    LANE_COMMIT = 6,           /* the header is damaged */
+    LANE_TRAILER = 7,          /* the checkpoint area is damaged */
+    LANE_DIRECTORY = 8,        /* the checkpoint area is damaged */
+    LANE_OID = 9,              /* mistyped, or of another card */
+    LANE_COUNT = 10,           /* rescinded since the key was made: take a new key, if it is still yours */
+    LANE_LENGTH = 11,          /* lend a buffer of 512 bytes; write within the page */
+    LANE_GENERATION_FULL = 12, /* advance until H if a snapshot is pending; then take one, and advance */
+    LANE_AREA_FULL = 13,       /* advance until H */
+    LANE_MEMORY_FULL = 14,     /* advance if a snapshot is pending, else page out */
+    LANE_COUNT_END = 15,       /* the page can be written, and never rescinded again */
+    LANE_PENDING = 16,         /* advance until H */
+    LANE_UNCHANGED = 17,       /* nothing */
+    LANE_COMMIT_END = 18,      /* format the card anew */
+    LANE_NONE_WAITS = 19,      /* nothing */
+    LANE_NOTHING_DUE = 20,     /* nothing */
+    LANE_FLUSH_DUE = 28        /* advance once (F), then page out */
 };
+
+/* The sentence of each number. */
+static inline const char *lane_refusal_text(uint32_t refusal)
+{
+    switch (refusal) {
+    case LANE_DONE: return "done";
+    case LANE_MEMORY: return "memory is not 4 to 64 whole frames, or not as long as the record says";
+    case LANE_RECORD: return "the record does not hold together";
+    case LANE_CARD: return "the card is not 11 to 65,536 whole blocks, or not as many as the record says";
+    case LANE_LAYOUT: return "the layout is not 1";
+    case LANE_GEOMETRY: return "A or the ranges break the limits, or do not fill the card exactly";
+    case LANE_COMMIT: return "commit and trailer are not both 0, nor commit above 0 and trailer in 1 to A";
+    case LANE_TRAILER: return "the trailer is not that commit's, or its numbers do not fit";
+    case LANE_DIRECTORY: return "entries do not rise, or name no home frame or no block among the p";
+    case LANE_OID: return "the OID is in no range";
+    case LANE_COUNT: return "the key's count is not the present one";
+    case LANE_LENGTH: return "the buffer is not 512 bytes, or offset + length is above 512";
+    case LANE_GENERATION_FULL: return "the current size would be above H, half the area";
+    case LANE_AREA_FULL: return "all three sizes together would be above A";
+    case LANE_MEMORY_FULL: return "memory has too few free frames";
+    case LANE_COUNT_END: return "the count is 4,294,967,295";
+    case LANE_PENDING: return "a snapshot is pending";
+    case LANE_UNCHANGED: return "no frame has changed since the last snapshot or start";
+    case LANE_COMMIT_END: return "the commit number is 4,294,967,295";
+    case LANE_NONE_WAITS: return "no frame waits";
+    case LANE_NOTHING_DUE: return "no block write and no flush is due";
+    case LANE_FLUSH_DUE: return "the flush after a header write or a start is due";
+    default: return "a number that this header does not know";
+    }
+}
 
 /* What an advance or a page-out did. */
 enum lane_kind {
@@ -79,7 +160,7 @@ enum lane_kind {
     LANE_T = 3,       /* its trailer */
     LANE_M = 4,       /* a frame of the committed generation, copied to its home block */
     LANE_H = 5,       /* the header: the snapshot is committed once it is flushed */
-    LANE_F = 6,       /* no block: FLUSH the device before the next call, and write nothing */
+    LANE_F = 6        /* no block: FLUSH the device before the next call, and write nothing */
 };
 
 typedef struct {
@@ -130,52 +211,75 @@ typedef struct {
 } lane_present;
 LANE_SIZE(lane_present, 8);
 
-/* What lane_page_out and lane_advance answer: the kind and the block written (0 for LANE_F, which
-   writes none), or LANE_REFUSED and the refusal. */
+/* What lane_page_out and lane_advance answer. Done: the kind, LANE_DONE, and the block written (0 for
+   LANE_F, which writes none). Refused: LANE_REFUSED, the refusal, and block 0. */
 typedef struct {
     uint32_t kind;
-    size_t number;
+    uint32_t refusal;
+    size_t block;
 } lane_report;
 LANE_SIZE(lane_report, 16);
 
-/* Writes each pot, then the header, of a card with `area` blocks of checkpoint area. `ranges` has
-   the first OID and the number of pages of each range in turn, so ranges_len is twice their number. */
+/*
+ * The calls. Each takes the same card (all its blocks, card_len bytes) and the same memory (any bytes
+ * before start, memory_len bytes). Questions are asked in the order in which their numbers stand.
+ */
+
+/* Makes a card of any bytes an empty one, with `area` blocks of checkpoint area: writes each pot,
+   then the header. `ranges` has the first OID and the number of pages of each range in turn, so
+   ranges_len is twice their number. OIDs rise from range to range; card_len is LANE_BLOCK times
+   1 + area + LANE_RANGE_BLOCKS of each range.
+   Answers LANE_CARD 3, LANE_GEOMETRY 5. */
 uint32_t lane_format(uint8_t *card, size_t card_len, size_t area, const uint32_t *ranges,
                      size_t ranges_len);
 
-/* Makes the record that the card tells of; what it held before is not read. */
+/* Makes the record that the card tells of, with every page and count as at the last snapshot whose
+   header it has; what the record held before is not read.
+   Answers LANE_MEMORY 1, LANE_CARD 3, LANE_LAYOUT 4, LANE_GEOMETRY 5, LANE_COMMIT 6, LANE_TRAILER 7,
+   LANE_DIRECTORY 8. */
 uint32_t lane_start(lane_store *s, const uint8_t *card, size_t card_len, const uint8_t *memory,
                     size_t memory_len);
 
-/* Gives the present count of an OID; the two are the key that the next three calls take. */
-lane_present lane_key(lane_store *s, const uint8_t *card, size_t card_len, const uint8_t *memory,
-                      size_t memory_len, uint32_t oid);
+/* Gives the present count of an OID; the two are the key that the next three calls take.
+   Answers LANE_MEMORY 1, LANE_RECORD 2, LANE_CARD 3, LANE_OID 9. */
+lane_present lane_key(const lane_store *s, const uint8_t *card, size_t card_len,
+                      const uint8_t *memory, size_t memory_len, uint32_t oid);
 
-/* Fills a buffer of 512 bytes with the page. */
-uint32_t lane_read(lane_store *s, const uint8_t *card, size_t card_len, const uint8_t *memory,
-                   size_t memory_len, uint32_t oid, uint32_t count, uint8_t *buffer,
-                   size_t buffer_len);
+/* Fills a buffer of 512 bytes with the page.
+   Answers LANE_MEMORY 1, LANE_RECORD 2, LANE_CARD 3, LANE_OID 9, LANE_COUNT 10, LANE_LENGTH 11. */
+uint32_t lane_read(const lane_store *s, const uint8_t *card, size_t card_len,
+                   const uint8_t *memory, size_t memory_len, uint32_t oid, uint32_t count,
+                   uint8_t *buffer, size_t buffer_len);
 
-/* Puts bytes into the page at offset `at`. */
+/* Puts bytes into the page at offset `at`. Length 0 changes nothing.
+   Answers LANE_MEMORY 1, LANE_RECORD 2, LANE_CARD 3, LANE_OID 9, LANE_COUNT 10, LANE_LENGTH 11,
+   LANE_GENERATION_FULL 12, LANE_AREA_FULL 13, LANE_MEMORY_FULL 14. */
 uint32_t lane_write(lane_store *s, const uint8_t *card, size_t card_len, uint8_t *memory,
                     size_t memory_len, uint32_t oid, uint32_t count, size_t at,
                     const uint8_t *bytes, size_t bytes_len);
 
-/* Makes the page zeros and adds 1 to its count, so that every key to it is old. */
+/* Makes the page zeros and adds 1 to its count, so that every key to it is old.
+   Answers LANE_MEMORY 1, LANE_RECORD 2, LANE_CARD 3, LANE_OID 9, LANE_COUNT 10, LANE_COUNT_END 15,
+   LANE_GENERATION_FULL 12, LANE_AREA_FULL 13, LANE_MEMORY_FULL 14. */
 uint32_t lane_rescind(lane_store *s, const uint8_t *card, size_t card_len, uint8_t *memory,
                       size_t memory_len, uint32_t oid, uint32_t count);
 
-/* Marks all pages and counts as they are, to be kept once their header is written and flushed. */
+/* Marks all pages and counts as they are, to be kept once their header is written and flushed.
+   Answers LANE_MEMORY 1, LANE_RECORD 2, LANE_CARD 3, LANE_PENDING 16, LANE_UNCHANGED 17,
+   LANE_COMMIT_END 18. */
 uint32_t lane_snapshot(lane_store *s, const uint8_t *card, size_t card_len, const uint8_t *memory,
                        size_t memory_len);
 
 /* Writes the oldest waiting frame to the area, which frees its memory frame; its kind is LANE_P.
-   Refused LANE_FLUSH_DUE until the flush after a start or a header write is made. */
+   Refused LANE_FLUSH_DUE until the flush after a start or a header write is made.
+   Answers LANE_MEMORY 1, LANE_RECORD 2, LANE_CARD 3, LANE_FLUSH_DUE 28, LANE_NONE_WAITS 19. */
 lane_report lane_page_out(lane_store *s, uint8_t *card, size_t card_len, const uint8_t *memory,
                           size_t memory_len);
 
 /* Makes the next block write of a commit or of migration, or asks for the flush that comes before it:
-   just before every LANE_H, just after it, and first of all after a start. */
+   just before every LANE_H, just after it, and first of all after a start. LANE_NOTHING_DUE: all is
+   home.
+   Answers LANE_MEMORY 1, LANE_RECORD 2, LANE_CARD 3, LANE_NOTHING_DUE 20. */
 lane_report lane_advance(lane_store *s, uint8_t *card, size_t card_len, const uint8_t *memory,
                          size_t memory_len);
 

@@ -3,7 +3,7 @@
 use crate::controller::{Answer, Calls, AREA, FIRST, FRESH, MEMORY, UNWRITTEN, WRITTEN};
 use crate::map::Map;
 use crate::store::Page;
-use lane::{Advance, Key, Range, Refusal, Store};
+use lane::{Key, Range, Refusal, Report, Store};
 use model::Kind;
 
 const RANGES: [Range; 2] = [
@@ -90,12 +90,13 @@ impl Calls for Proved {
     fn advance(&mut self) -> Result<(Kind, usize), u32> {
         let written = self.store.advance(&mut self.card, &self.memory);
         written.map_err(Refusal::number).map(|w| match w {
-            Advance::P(block) => (Kind::P, block),
-            Advance::D(block) => (Kind::D, block),
-            Advance::T(block) => (Kind::T, block),
-            Advance::M(block) => (Kind::M, block),
-            Advance::H(block) => (Kind::H, block),
-            Advance::F(block) => (Kind::F, block),
+            Report::P(block) => (Kind::P, block),
+            Report::D(block) => (Kind::D, block),
+            Report::T(block) => (Kind::T, block),
+            Report::M(block) => (Kind::M, block),
+            Report::H(block) => (Kind::H, block),
+            Report::F(block) => (Kind::F, block),
+            other => unreachable!("the model knows no {other}"),
         })
     }
 }

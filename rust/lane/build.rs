@@ -1,16 +1,26 @@
-//! Links the proved library that `rt staticlib lane` makes.
+//! Links the proved library, from the folder that LANE_LIB_DIR names, else from where
+//! `rt staticlib lane` puts it.
 
 use std::env;
-use std::path::PathBuf;
+use std::path::{Path, PathBuf};
+
+fn folder() -> PathBuf {
+    if let Some(named) = env::var_os("LANE_LIB_DIR") {
+        return PathBuf::from(named);
+    }
+    let manifest = env::var_os("CARGO_MANIFEST_DIR").expect("cargo sets it");
+    Path::new(&manifest).join("../../target/staticlib")
+}
 
 fn main() {
-    let manifest = env::var_os("CARGO_MANIFEST_DIR").expect("cargo sets it");
-    let folder = PathBuf::from(manifest).join("../../target/staticlib");
+    let folder = folder();
     let library = folder.join("liblane.a");
+    println!("cargo::rerun-if-env-changed=LANE_LIB_DIR");
     println!("cargo::rerun-if-changed={}", library.display());
     if !library.is_file() {
         println!(
-            "cargo::error=target/staticlib/liblane.a is missing: run `rt staticlib lane` first"
+            "cargo::error={} is missing: run `rt staticlib lane`, or name its folder in LANE_LIB_DIR",
+            library.display()
         );
         return;
     }

@@ -7,7 +7,7 @@
 
 #![forbid(unsafe_code)]
 
-use lane::{Advance, Key, Range, Refusal, Store, BLOCK};
+use lane::{Key, Range, Refusal, Report, Store, BLOCK};
 use std::error::Error;
 use std::fs::{File, OpenOptions};
 use std::io;
@@ -117,7 +117,7 @@ impl Controller {
 
     /// Dies as in a power cut: a flush is not made, block 0 is still old, any other block has no
     /// sense in its first half.
-    fn cut(&self, report: Advance) -> Outcome<()> {
+    fn cut(&self, report: Report) -> Outcome<()> {
         match report.block() {
             None => println!("{report} not flushed"),
             Some(0) => println!("{report} not written"),

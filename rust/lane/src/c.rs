@@ -4,7 +4,7 @@
 //! A caller owes what the first lines of `include/lane.h` say: pointers valid for their lengths, not
 //! null for length 0 either, and that what a call may change overlaps nothing else that it is lent.
 
-use std::mem::{offset_of, size_of};
+use core::mem::{offset_of, size_of};
 
 #[repr(C)]
 struct Geometry {
@@ -61,8 +61,10 @@ pub struct Present {
 pub struct Report {
     /// 1 to 6 for P, D, T, M, H and F; refused, 0.
     pub kind: u32,
-    /// The block written, or the number of the question that was answered "no".
-    pub number: usize,
+    /// 0, or the number of the question that was answered "no".
+    pub refusal: u32,
+    /// The block written; 0 for F, which writes none, and refused.
+    pub block: usize,
 }
 
 const _: () = {
@@ -82,10 +84,13 @@ const _: () = {
     assert!(size_of::<Present>() == 8);
     assert!(offset_of!(Present, count) == 4);
     assert!(size_of::<Report>() == 16);
-    assert!(offset_of!(Report, number) == 8);
+    assert!(offset_of!(Report, refusal) == 4);
+    assert!(offset_of!(Report, block) == 8);
 };
 
 extern "C" {
+    /// The version of the library's interface.
+    pub fn lane_version() -> u32;
     /// Writes each pot, then the header.
     pub fn lane_format(
         card: *mut u8,
@@ -104,7 +109,7 @@ extern "C" {
     ) -> u32;
     /// The present count of a page.
     pub fn lane_key(
-        s: *mut Record,
+        s: *const Record,
         card: *const u8,
         card_len: usize,
         memory: *const u8,
@@ -113,7 +118,7 @@ extern "C" {
     ) -> Present;
     /// Fills a buffer of 512 bytes.
     pub fn lane_read(
-        s: *mut Record,
+        s: *const Record,
         card: *const u8,
         card_len: usize,
         memory: *const u8,

@@ -6,7 +6,7 @@
 //! it.
 //!
 //! ```
-//! use lane::{format, Advance, Range, Refusal, Store, BLOCK};
+//! use lane::{format, Range, Refusal, Report, Store, BLOCK};
 //!
 //! # fn main() -> Result<(), Refusal> {
 //! // A header, 8 blocks of checkpoint area, and one range: an allocation pot and a page.
@@ -18,12 +18,12 @@
 //! let key = store.key(&card, &memory, 100)?;
 //! store.write(&card, &mut memory, key, 0, b"paid")?;
 //! store.snapshot(&card, &memory)?;
-//! while store.advance(&mut card, &memory)? != Advance::H(0) {}
-//! assert_eq!(store.advance(&mut card, &memory)?, Advance::F(0));
+//! while store.advance(&mut card, &memory)? != Report::H(0) {}
+//! assert_eq!(store.advance(&mut card, &memory)?, Report::F(0));
 //!
 //! // The power fails, and only the card is left: memory holds any bytes.
 //! let memory = [255; 4 * BLOCK];
-//! let mut store = Store::start(&card, &memory)?;
+//! let store = Store::start(&card, &memory)?;
 //! let mut page = [0; BLOCK];
 //! store.read(&card, &memory, key, &mut page)?;
 //! assert_eq!(&page[..4], b"paid");
@@ -35,22 +35,30 @@
 //! answered "no".
 //!
 //! Where the card is a copy of a device's blocks, the program writes the block that an advance or a
-//! page-out reports, and no other, in any order and without waiting for it; at [`Advance::F`] it
+//! page-out reports, and no other, in any order and without waiting for it; at [`Report::F`] it
 //! writes none and flushes the device before the next call. `include/lane.h` says what else program
 //! and device owe.
+//!
+//! The crate needs neither `std` nor an allocator. A [`Store`] holds its record in place, of
+//! [`Store::RECORD`] bytes.
 
+#![no_std]
 #![deny(missing_docs)]
 #![deny(clippy::undocumented_unsafe_blocks)]
 
-mod advance;
 pub mod c;
 mod raw;
 mod refusal;
+mod report;
 mod store;
 
-pub use advance::Advance;
 pub use refusal::Refusal;
+pub use report::Report;
 pub use store::Store;
+
+/// The version of the library's interface that this crate is written for. [`format()`] and
+/// [`Store::start`] compare it with the one of the library that is linked.
+pub const VERSION: u32 = 1;
 
 /// Bytes of a block, a page and a memory frame.
 pub const BLOCK: usize = 512;
@@ -77,7 +85,31 @@ pub struct Range {
 ///
 /// The card must have 1 + `area` blocks and, for each of the 1 to 8 ranges, a block for each page
 /// and for each 102 of them or part of it.
+///
+/// # Errors
+///
+/// [`Card`](Refusal::Card) 3, [`Geometry`](Refusal::Geometry) 5.
+///
+/// # Panics
+///
+/// If the library's version is not [`VERSION`].
 pub fn format(card: &mut [u8], area: usize, ranges: &[Range]) -> Result<(), Refusal> {
-    let numbers: Vec<u32> = ranges.iter().flat_map(|r| [r.first, r.pages]).collect();
-    Refusal::done(raw::format(card, area, &numbers))
+    // More than 8 ranges are refused 5, whatever they are: the first 9 tell the library as much.
+    const MOST: usize = 9;
+    same_version();
+    let mut numbers = [0; 2 * MOST];
+    for (pair, range) in numbers.chunks_exact_mut(2).zip(ranges) {
+        pair.copy_from_slice(&[range.first, range.pages]);
+    }
+    let told = 2 * ranges.len().min(MOST);
+    Refusal::done(raw::format(card, area, &numbers[..told]))
+}
+
+/// Stops a program that is linked with a library of another version: no answer can be trusted.
+fn same_version() {
+    let library = raw::version();
+    assert!(
+        library == VERSION,
+        "liblane.a has version {library} of the interface, and this crate is for version {VERSION}"
+    );
 }

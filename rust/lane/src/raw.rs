@@ -6,14 +6,19 @@
 
 use crate::c::{
     lane_advance, lane_format, lane_key, lane_page_out, lane_read, lane_rescind, lane_snapshot,
-    lane_start, lane_write, Present, Record, Report,
+    lane_start, lane_version, lane_write, Present, Record, Report,
 };
 use crate::Key;
 
 /// A record of zeros, on which every call but start is refused.
-pub(crate) fn zeros() -> Box<Record> {
+pub(crate) fn zeros() -> Record {
     // SAFETY: a record is numbers throughout, and each may be 0.
-    Box::new(unsafe { std::mem::zeroed() })
+    unsafe { core::mem::zeroed() }
+}
+
+pub(crate) fn version() -> u32 {
+    // SAFETY: it is lent nothing.
+    unsafe { lane_version() }
 }
 
 pub(crate) fn format(card: &mut [u8], area: usize, ranges: &[u32]) -> u32 {
@@ -42,8 +47,8 @@ pub(crate) fn start(record: &mut Record, card: &[u8], memory: &[u8]) -> u32 {
     }
 }
 
-pub(crate) fn key(record: &mut Record, card: &[u8], memory: &[u8], oid: u32) -> Present {
-    // SAFETY: two slices to read, `record` exclusive.
+pub(crate) fn key(record: &Record, card: &[u8], memory: &[u8], oid: u32) -> Present {
+    // SAFETY: a record and two slices, all to read.
     unsafe {
         lane_key(
             record,
@@ -57,13 +62,13 @@ pub(crate) fn key(record: &mut Record, card: &[u8], memory: &[u8], oid: u32) -> 
 }
 
 pub(crate) fn read(
-    record: &mut Record,
+    record: &Record,
     card: &[u8],
     memory: &[u8],
     key: Key,
     buffer: &mut [u8],
 ) -> u32 {
-    // SAFETY: two slices to read, `record` and `buffer` exclusive.
+    // SAFETY: a record and two slices to read, `buffer` exclusive.
     unsafe {
         lane_read(
             record,
@@ -161,7 +166,7 @@ pub(crate) fn advance(record: &mut Record, card: &mut [u8], memory: &[u8]) -> Re
 #[cfg(test)]
 mod tests {
     use super::*;
-    use std::mem::size_of;
+    use core::mem::size_of;
 
     /// Nothing but this holds the record's size against the library: refused, start makes a
     /// record's bytes zeros, and none behind.

@@ -1,5 +1,5 @@
-use std::error::Error;
-use std::fmt;
+use core::error::Error;
+use core::fmt;
 
 /// Each refusal with its number and meaning, said once for the enum, its texts and its
 /// documentation.
@@ -44,9 +44,9 @@ refusals! {
     Oid = 9, "the OID is in no range";
     Count = 10, "the key's count is not the present one";
     Length = 11, "the buffer is not 512 bytes, or offset + length is above 512";
-    Half = 12, "the current size would be above H, half the area";
-    Area = 13, "all three sizes together would be above A";
-    Full = 14, "memory has too few free frames";
+    GenerationFull = 12, "the current size would be above H, half the area";
+    AreaFull = 13, "all three sizes together would be above A";
+    MemoryFull = 14, "memory has too few free frames";
     CountEnd = 15, "the count is 4,294,967,295";
     Pending = 16, "a snapshot is pending";
     Unchanged = 17, "no frame has changed since the last snapshot or start";

@@ -1,6 +1,6 @@
 //! Refusals through the safe interface: the number, and that nothing changed.
 
-use lane::{format, Advance, Key, Range, Refusal, Store};
+use lane::{format, Key, Range, Refusal, Report, Store};
 
 const RANGE: Range = Range {
     first: 100,
@@ -27,11 +27,11 @@ impl Lane {
         }
     }
 
-    fn key(&mut self, oid: u32) -> Key {
+    fn key(&self, oid: u32) -> Key {
         self.store.key(&self.card, &self.memory, oid).unwrap()
     }
 
-    fn read(&mut self, key: Key, buffer: &mut [u8]) -> Result<(), Refusal> {
+    fn read(&self, key: Key, buffer: &mut [u8]) -> Result<(), Refusal> {
         self.store.read(&self.card, &self.memory, key, buffer)
     }
 
@@ -44,7 +44,7 @@ impl Lane {
         self.store.snapshot(&self.card, &self.memory)
     }
 
-    fn advance(&mut self) -> Result<Advance, Refusal> {
+    fn advance(&mut self) -> Result<Report, Refusal> {
         self.store.advance(&mut self.card, &self.memory)
     }
 }
@@ -73,7 +73,7 @@ fn start_asks_memory_before_card() {
 
 #[test]
 fn card_and_memory_are_as_long_as_at_start() {
-    let mut lane = Lane::new();
+    let lane = Lane::new();
     let short = &lane.card[512..];
     assert_eq!(lane.store.key(short, &lane.memory, 100), Err(Refusal::Card));
     let long = vec![0; 5 * 512];
@@ -120,7 +120,7 @@ fn a_generation_stays_within_half_the_area() {
     let (first, second) = (lane.key(100), lane.key(101));
     lane.write(first, 0, b"1").unwrap();
     let memory = lane.memory.clone();
-    assert_eq!(lane.write(second, 0, b"2"), Err(Refusal::Half));
+    assert_eq!(lane.write(second, 0, b"2"), Err(Refusal::GenerationFull));
     assert!(lane.memory == memory);
     let mut page = [9; 512];
     lane.read(second, &mut page).unwrap();
@@ -133,7 +133,7 @@ fn every_write_is_reported_until_none_is_due() {
     let key = lane.key(100);
     let owed = lane.store.page_out(&mut lane.card, &lane.memory);
     assert_eq!(owed, Err(Refusal::FlushDue));
-    assert_eq!(lane.advance(), Ok(Advance::F(0)));
+    assert_eq!(lane.advance(), Ok(Report::F(0)));
     assert_eq!(lane.advance(), Err(Refusal::NothingDue));
     let none = lane.store.page_out(&mut lane.card, &lane.memory);
     assert_eq!(none, Err(Refusal::NoneWaits));
@@ -154,10 +154,10 @@ fn page_out_writes_one_block_of_the_area() {
     let mut lane = Lane::new();
     let key = lane.key(100);
     lane.write(key, 0, &[7]).unwrap();
-    assert_eq!(lane.advance(), Ok(Advance::F(0)));
+    assert_eq!(lane.advance(), Ok(Report::F(0)));
     let before = lane.card.clone();
     let paged = lane.store.page_out(&mut lane.card, &lane.memory);
-    assert_eq!(paged, Ok(Advance::P(1)));
+    assert_eq!(paged, Ok(Report::P(1)));
     let changed: Vec<usize> = (0..12)
         .filter(|b| lane.card[b * 512..][..512] != before[b * 512..][..512])
         .collect();

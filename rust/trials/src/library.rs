@@ -92,19 +92,17 @@ fn counted(present: Present) -> Answer {
     }
 }
 
+/// A refused report has kind and block 0, and any other has refusal 0.
 fn reported(report: Report) -> Answer {
-    let kind = match report.kind {
-        0 => {
-            let refusal = u32::try_from(report.number);
-            return refusal.map_or(Answer::Strange, Answer::Refused);
-        }
-        1 => Kind::P,
-        2 => Kind::D,
-        3 => Kind::T,
-        4 => Kind::M,
-        5 => Kind::H,
-        6 => Kind::F,
+    let kind = match (report.kind, report.refusal) {
+        (0, refusal @ 1..) if report.block == 0 => return Answer::Refused(refusal),
+        (1, 0) => Kind::P,
+        (2, 0) => Kind::D,
+        (3, 0) => Kind::T,
+        (4, 0) => Kind::M,
+        (5, 0) => Kind::H,
+        (6, 0) => Kind::F,
         _ => return Answer::Strange,
     };
-    Answer::Wrote(kind, report.number)
+    Answer::Wrote(kind, report.block)
 }

@@ -1,11 +1,12 @@
-use crate::c::Report;
+use crate::c;
 use crate::Refusal;
-use std::fmt;
+use core::fmt;
 
 /// The block write that an advance or a page-out made, with its block, or the flush that an advance
 /// asks for, which reports block 0 and writes none.
 #[derive(Clone, Copy, Debug, Eq, Hash, PartialEq)]
-pub enum Advance {
+#[non_exhaustive]
+pub enum Report {
     /// The oldest waiting frame, to the area.
     P(usize),
     /// A block of its directory.
@@ -20,42 +21,42 @@ pub enum Advance {
     F(usize),
 }
 
-impl Advance {
+impl Report {
     /// The block written; none for a flush.
     pub fn block(self) -> Option<usize> {
         match self {
-            Advance::F(_) => None,
+            Report::F(_) => None,
             report => Some(report.parts().1),
         }
     }
 
     fn parts(self) -> (char, usize) {
         match self {
-            Advance::P(block) => ('P', block),
-            Advance::D(block) => ('D', block),
-            Advance::T(block) => ('T', block),
-            Advance::M(block) => ('M', block),
-            Advance::H(block) => ('H', block),
-            Advance::F(block) => ('F', block),
+            Report::P(block) => ('P', block),
+            Report::D(block) => ('D', block),
+            Report::T(block) => ('T', block),
+            Report::M(block) => ('M', block),
+            Report::H(block) => ('H', block),
+            Report::F(block) => ('F', block),
         }
     }
 
-    pub(crate) fn of(report: Report) -> Result<Advance, Refusal> {
-        let number = report.number;
+    pub(crate) fn of(report: c::Report) -> Result<Report, Refusal> {
+        let block = report.block;
         match report.kind {
-            0 => Err(Refusal::of(u32::try_from(number).unwrap_or(u32::MAX))),
-            1 => Ok(Advance::P(number)),
-            2 => Ok(Advance::D(number)),
-            3 => Ok(Advance::T(number)),
-            4 => Ok(Advance::M(number)),
-            5 => Ok(Advance::H(number)),
-            6 => Ok(Advance::F(number)),
+            0 => Err(Refusal::of(report.refusal)),
+            1 => Ok(Report::P(block)),
+            2 => Ok(Report::D(block)),
+            3 => Ok(Report::T(block)),
+            4 => Ok(Report::M(block)),
+            5 => Ok(Report::H(block)),
+            6 => Ok(Report::F(block)),
             kind => panic!("liblane.a reports kind {kind}, which this crate does not know"),
         }
     }
 }
 
-impl fmt::Display for Advance {
+impl fmt::Display for Report {
     fn fmt(&self, f: &mut fmt::Formatter<'_>) -> fmt::Result {
         let (kind, block) = self.parts();
         write!(f, "{kind} {block}")
