@@ -91,7 +91,7 @@ uint32_t lane_version(void);
 #define LANE_FRAMES_MAX 64
 #define LANE_RUN 102        /* pages that share a pot, the block of their counts and flags */
 
-/* Blocks that a range of so many pages takes, its pots counted. A card has 1 + A of them more. */
+/* Blocks that a range of so many pages takes, pots and pages. A card has 1 + A blocks before its ranges. */
 #define LANE_RANGE_BLOCKS(pages) ((size_t)(pages) + ((size_t)(pages) + LANE_RUN - 1) / LANE_RUN)
 
 /* What a call answers, by document 01's numbers; lane_refusal_text has their meaning, here stands
@@ -103,7 +103,7 @@ enum lane_refusal {
     LANE_RECORD = 2,           /* lend the record that the last call left; if it is lost, start again */
     LANE_CARD = 3,             /* lend the whole card, the one that was started */
     LANE_LAYOUT = 4,           /* never formatted, its format was cut, or of another version */
-    LANE_GEOMETRY = 5,         /* format with ranges that fill the card; at start, the header is damaged */
+    LANE_GEOMETRY = 5,         /* format with ranges that fill the card; at start lend it whole, or it is damaged */
     LANE_COMMIT = 6,           /* the header is damaged */
     LANE_TRAILER = 7,          /* the checkpoint area is damaged */
     LANE_DIRECTORY = 8,        /* the checkpoint area is damaged */

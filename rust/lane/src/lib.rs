@@ -39,14 +39,21 @@
 //! writes none and flushes the device before the next call. `include/lane.h` says what else program
 //! and device owe.
 //!
-//! The crate needs neither `std` nor an allocator. A [`Store`] holds its record in place, of
-//! [`Store::RECORD`] bytes.
+//! Stores are independent of each other, and may go from thread to thread. Calls that take `&self`
+//! may run beside each other on one store.
+//!
+//! The crate needs neither `std` nor an allocator: a [`Store`] holds its record in place, of
+//! [`Store::RECORD`] bytes. The build takes `liblane.a` from the folder that the environment variable
+//! LANE_LIB_DIR names by its whole path, else from `target/staticlib`, where `rt staticlib lane` puts
+//! it.
 
 #![no_std]
 #![deny(missing_docs)]
 #![deny(clippy::undocumented_unsafe_blocks)]
 
 pub mod c;
+#[cfg(test)]
+mod header;
 mod raw;
 mod refusal;
 mod report;
@@ -96,7 +103,7 @@ pub struct Range {
 pub fn format(card: &mut [u8], area: usize, ranges: &[Range]) -> Result<(), Refusal> {
     // More than 8 ranges are refused 5, whatever they are: the first 9 tell the library as much.
     const MOST: usize = 9;
-    same_version();
+    same_version(raw::version());
     let mut numbers = [0; 2 * MOST];
     for (pair, range) in numbers.chunks_exact_mut(2).zip(ranges) {
         pair.copy_from_slice(&[range.first, range.pages]);
@@ -106,8 +113,7 @@ pub fn format(card: &mut [u8], area: usize, ranges: &[Range]) -> Result<(), Refu
 }
 
 /// Stops a program that is linked with a library of another version: no answer can be trusted.
-fn same_version() {
-    let library = raw::version();
+fn same_version(library: u32) {
     assert!(
         library == VERSION,
         "liblane.a has version {library} of the interface, and this crate is for version {VERSION}"

@@ -16,14 +16,14 @@ macro_rules! refusals {
         }
 
         impl Refusal {
-            fn numbered(number: u32) -> Option<Refusal> {
+            pub(crate) fn numbered(number: u32) -> Option<Refusal> {
                 match number {
                     $($number => Some(Refusal::$name),)*
                     _ => None,
                 }
             }
 
-            fn meaning(self) -> &'static str {
+            pub(crate) fn meaning(self) -> &'static str {
                 match self {
                     $(Refusal::$name => $meaning,)*
                 }

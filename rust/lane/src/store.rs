@@ -32,7 +32,7 @@ impl Store {
     ///
     /// If the library's version is not [`VERSION`](crate::VERSION).
     pub fn start(card: &[u8], memory: &[u8]) -> Result<Store, Refusal> {
-        same_version();
+        same_version(raw::version());
         let mut record = raw::zeros();
         Refusal::done(raw::start(&mut record, card, memory))?;
         Ok(Store { record })

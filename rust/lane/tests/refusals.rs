@@ -62,6 +62,15 @@ fn format_asks_for_a_card_that_its_ranges_fill() {
 }
 
 #[test]
+fn format_takes_at_most_8_ranges() {
+    let ranges: Vec<Range> = (0..20).map(|first| Range { first, pages: 1 }).collect();
+    let mut card = vec![9; (1 + 8 + 8 * 2) * 512];
+    assert_eq!(format(&mut card, 8, &ranges[..8]), Ok(()));
+    assert_eq!(format(&mut card, 8, &ranges[..9]), Err(Refusal::Geometry));
+    assert_eq!(format(&mut card, 8, &ranges), Err(Refusal::Geometry));
+}
+
+#[test]
 fn start_asks_memory_before_card() {
     let lane = Lane::new();
     let start = |card: &[u8], memory: &[u8]| Store::start(card, memory).unwrap_err();
