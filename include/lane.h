@@ -25,7 +25,7 @@
  * A call takes less than 16 KiB of stack (measured; the proofs say nothing of the stack). It
  * allocates nothing, makes no system call, and needs memcpy, memmove and memset from the program.
  *
- * What the caller owes a device, where the card is a copy of its blocks:
+ * What the caller owes a device, or a file in its place, where the card is a copy of its blocks:
  * - It is opened with O_RDWR | O_DIRECT (and O_CLOEXEC). Through the page cache a write of one block
  *   brings down the whole memory page, 8 blocks, so that blocks 1 to 7 would rewrite block 0, long
  *   flushed, and a cut may tear it. Where the file system knows no O_DIRECT (EINVAL), a program says
