@@ -48,9 +48,9 @@
  *   is ahead of the device, and a second flush may be done though blocks of the first are lost. The
  *   program closes the device, opens and reads it anew, and starts.
  *
- * What the device owes at a cut: of the blocks written since the last flush any are down, in any
- * order, the last one torn; block 0 is whole, old or new; every other block stands as it was, and a
- * flush that is done has put down all that was written before it.
+ * What the device owes at a cut: block 0 is whole, old or new; every other block that was not written
+ * since the last flush stands as it was, and a flush that is done has put down all that was written
+ * before it. Blocks written since then may be down or not, in any order, and may hold any bytes.
  *
  * So its physical sector must be 512 bytes, or it must put 512 bytes down as one: a drive with sectors
  * of 4096 bytes that takes writes of 512 (512e) rewrites the seven neighbours of each block, and a
@@ -112,11 +112,11 @@ enum lane_refusal {
     LANE_LENGTH = 11,          /* lend a buffer of 512 bytes; write within the page */
     LANE_GENERATION_FULL = 12, /* advance until H if a snapshot is pending; then take one, and advance */
     LANE_AREA_FULL = 13,       /* advance until H */
-    LANE_MEMORY_FULL = 14,     /* advance if a snapshot is pending, else page out */
+    LANE_MEMORY_FULL = 14,     /* page out until the call is done; advance may end at 20 before it is */
     LANE_COUNT_END = 15,       /* the page can be written, and never rescinded again */
     LANE_PENDING = 16,         /* advance until H */
     LANE_UNCHANGED = 17,       /* nothing */
-    LANE_COMMIT_END = 18,      /* format the card anew */
+    LANE_COMMIT_END = 18,      /* nothing more is kept: copy the pages to a newly formatted card */
     LANE_NONE_WAITS = 19,      /* nothing */
     LANE_NOTHING_DUE = 20,     /* nothing */
     LANE_FLUSH_DUE = 28        /* advance once (F), then page out */
