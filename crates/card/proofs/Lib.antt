@@ -14,3 +14,4 @@ pub mod DirectoryLaws
 pub mod QuestionLaws
 pub mod CheckpointLaws
 pub mod LaneTable
+pub mod Vectors
