@@ -1,5 +1,5 @@
--- The whole run of document 01 with document 02's flushes (#110), of the definitions: area 8, one range of 1 page
--- (home block 10, its pot 9), 11 blocks, memory of 4 frames.
+-- The whole run of document 01 with document 02's flushes (#110), of the definitions, and two more snapshots behind
+-- it: area 8, one range of 1 page (home block 10, its pot 9), 11 blocks, memory of 4 frames.
 -- Assumes nothing.
 use Prim.Native.Nat.{ℕ, zero, suc}
 use mathlib.Core.List.{List, [], _∷_}
@@ -10,7 +10,7 @@ use Rattle.card.specs.Ring.{ringAt, generationSize}
 use Rattle.recovery.specs.Directory.{noteChange, insertByFrame, byFrame, downEntries, dirOf, turnOf}
 use Rattle.recovery.specs.Questions.{pageOutAsks}
 use Rattle.recovery.specs.State.{places, State, size, directoryOf, empty, owed}
-use Rattle.recovery.specs.Step.{queued, changeFrame, changeFrames, afterChange, afterSnapshot, Kind, page, directory, trailer, migration, header, flush, outOf, trailerBlockNo, nextMigration, kindWrite, afterKind, migrationDue, advanceDue, afterPageOut}
+use Rattle.recovery.specs.Step.{queued, changeFrame, changeFrames, afterChange, afterSnapshot, Kind, page, directory, trailer, migration, header, flush, oldestBytes, outOf, trailerBlockNo, nextMigration, kindWrite, afterKind, migrationDue, advanceDue, pageOutWrite, afterPageOut}
 
 record Line : Type 0 where
   kind : Kind
@@ -48,8 +48,12 @@ wrote : State
 unfolding began
 wrote = afterSnapshot (afterChange (record { frame = 10; bytes = [] } ∷ record { frame = 9; bytes = [] } ∷ []) began)
 
-whole-run : trace 12 wrote ≡ line flush 0 ∷ line page 1 ∷ line page 2 ∷ line directory 3 ∷ line trailer 4 ∷ line flush 0 ∷ line header 0 ∷ line flush 0 ∷ line migration 9 ∷ line migration 10 ∷ []
-unfolding trace traced line wrote began advanceDue migrationDue kindWrite afterKind afterChange changeFrames changeFrame queued turnOf noteChange afterSnapshot outOf places size generationSize empty directoryOf dirOf downEntries byFrame insertByFrame nextMigration trailerBlockNo ringAt
+whole-run : trace 12 wrote
+    ≡ line flush 0 ∷ line page 1 ∷ line page 2 ∷ line directory 3 ∷ line trailer 4 ∷ line flush 0 ∷ line header 0
+    ∷ line flush 0 ∷ line migration 9 ∷ line migration 10 ∷ []
+unfolding trace traced line wrote began advanceDue migrationDue kindWrite afterKind afterChange changeFrames
+    changeFrame queued turnOf noteChange afterSnapshot outOf places size generationSize empty directoryOf dirOf
+    downEntries byFrame insertByFrame nextMigration trailerBlockNo ringAt
 whole-run = refl
 
 -- the directory that goes to the card
@@ -57,8 +61,10 @@ down : State
 unfolding wrote
 down = afterKind page (afterKind page (afterKind flush wrote))
 
-whole-directory : directoryOf 8 (down .pending) ≡ record { frame = 9; block = 2 } ∷ record { frame = 10; block = 1 } ∷ []
-unfolding down wrote began afterKind afterChange changeFrames changeFrame queued turnOf noteChange afterSnapshot outOf places size generationSize empty directoryOf dirOf downEntries byFrame insertByFrame ringAt
+whole-directory : directoryOf 8 (down .pending)
+    ≡ record { frame = 9; block = 2 } ∷ record { frame = 10; block = 1 } ∷ []
+unfolding down wrote began afterKind afterChange changeFrames changeFrame queued turnOf noteChange afterSnapshot outOf
+    places size generationSize empty directoryOf dirOf downEntries byFrame insertByFrame ringAt
 whole-directory = refl
 
 -- while the flush after a start is due page-out is refused 28; then, with nothing that waits, 19
@@ -69,8 +75,59 @@ owed-refuses = (refl, refl)
 -- the flush before a header write is made once: a page-out after it brings no second one
 covered : State
 unfolding down
-covered = afterPageOut (afterChange (record { frame = 10; bytes = [] } ∷ []) (afterKind flush (afterKind trailer (afterKind directory down))))
+covered =
+    afterPageOut (afterChange (record { frame = 10; bytes = [] } ∷ [])
+    (afterKind flush (afterKind trailer (afterKind directory down))))
 
 flushed-once : trace 5 covered ≡ line header 0 ∷ line flush 0 ∷ line migration 9 ∷ line migration 10 ∷ []
-unfolding covered down trace traced line wrote began advanceDue migrationDue kindWrite afterKind afterChange changeFrames changeFrame queued turnOf noteChange afterSnapshot afterPageOut outOf places size generationSize empty directoryOf dirOf downEntries byFrame insertByFrame nextMigration trailerBlockNo ringAt
+unfolding covered down trace traced line wrote began advanceDue migrationDue kindWrite afterKind afterChange
+    changeFrames changeFrame queued turnOf noteChange afterSnapshot afterPageOut outOf places size generationSize
+    empty directoryOf dirOf downEntries byFrame insertByFrame nextMigration trailerBlockNo ringAt
 flushed-once = refl
+
+-- a frame that waits and changes again keeps its turn: of 10, 9 and 10 again the first page-out puts down 10 with its
+-- newest bytes, the second 9
+again : State
+unfolding began
+again =
+    afterChange (record { frame = 10; bytes = 8 ∷ [] } ∷ [])
+    (afterChange (record { frame = 9; bytes = 6 ∷ [] } ∷ [])
+    (afterChange (record { frame = 10; bytes = 7 ∷ [] } ∷ []) (afterKind flush began)))
+
+turn-kept : (pageOutWrite again ≡ record { block = 1; bytes = 8 ∷ [] })
+    × (pageOutWrite (afterPageOut again) ≡ record { block = 2; bytes = 6 ∷ [] })
+unfolding again began pageOutWrite afterPageOut outOf oldestBytes afterKind afterChange changeFrames changeFrame
+    queued turnOf noteChange places empty ringAt
+turn-kept = (refl, refl)
+
+-- a second snapshot once M 9 is made: what is left of migration comes after the trailer, before flush and header
+second : State
+unfolding down
+second =
+    afterSnapshot (afterChange (record { frame = 10; bytes = [] } ∷ [])
+    (afterKind migration (afterKind flush (afterKind header
+    (afterKind flush (afterKind trailer (afterKind directory down)))))))
+
+second-run : trace 12 second
+    ≡ line page 5 ∷ line directory 6 ∷ line trailer 7 ∷ line migration 10 ∷ line flush 0 ∷ line header 0
+    ∷ line flush 0 ∷ line migration 10 ∷ []
+unfolding second down trace traced line wrote began advanceDue migrationDue kindWrite afterKind afterChange
+    changeFrames changeFrame queued turnOf noteChange afterSnapshot outOf places size generationSize empty directoryOf
+    dirOf downEntries byFrame insertByFrame nextMigration trailerBlockNo ringAt
+second-run = refl
+
+-- a third right after the header, whose flush is still due: after block 8 of the area comes block 1
+third : State
+unfolding second
+third =
+    afterSnapshot (afterChange (record { frame = 9; bytes = [] } ∷ [])
+    (afterKind header (afterKind flush (afterKind migration
+    (afterKind trailer (afterKind directory (afterKind page second)))))))
+
+third-run : trace 12 third
+    ≡ line flush 0 ∷ line page 8 ∷ line directory 1 ∷ line trailer 2 ∷ line migration 10 ∷ line flush 0
+    ∷ line header 0 ∷ line flush 0 ∷ line migration 9 ∷ []
+unfolding third second down trace traced line wrote began advanceDue migrationDue kindWrite afterKind afterChange
+    changeFrames changeFrame queued turnOf noteChange afterSnapshot outOf places size generationSize empty directoryOf
+    dirOf downEntries byFrame insertByFrame nextMigration trailerBlockNo ringAt
+third-run = refl
