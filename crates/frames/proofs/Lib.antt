@@ -15,6 +15,7 @@ pub mod EachLaws
 pub mod CallLaws
 pub mod DueLaws
 pub mod Run
+pub mod Zeros
 pub mod WorldLaws
 pub mod DriveWorld
 pub mod Recovery

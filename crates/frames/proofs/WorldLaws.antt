@@ -17,9 +17,10 @@ use Rattle.card.specs.Bytes.{All}
 use Rattle.card.specs.Question.{Question, firstNo}
 use Rattle.card.specs.Range.{Range}
 use Rattle.frames.proofs.KeepLaws.{done-tells}
-use Rattle.frames.proofs.ReadyLaws.{whole-said, has-frames, no-zeros, common-both}
+use Rattle.frames.proofs.ReadyLaws.{whole-said, common-both}
 use Rattle.frames.specs.Promise.{Lent, meaningOf, common, FrameCall, start, change, snapshot, pageOut, advance, FrameAnswer, refused, asks, advanceAnswer, advanceWrite, advanced, doneAnswer, doneWrite, after, FrameKept}
 use Rattle.frames.proofs.Run.{told, Asked}
+use Rattle.frames.proofs.Zeros.{zeros-first}
 use Rattle.record.specs.Holds.{holdsTogether}
 use Rattle.record.specs.Meaning.{zeroStore}
 use Rattle.recovery.proofs.Follows.{Stored, Follows, follows-card}
@@ -48,7 +49,7 @@ told-refused advance n b = refl
 -- ---- questions 1 to 3
 
 pub zeros-refused : (l : Lent) → l .store ≡ zeroStore → firstNo (common l) ≡ 0 → ⊥
-zeros-refused l z h = no-zeros (l .store) (has-frames l h) z
+zeros-refused l z h = let e : firstNo (common l) ≡ 1 = rw z (zeros-first (l .memory) (l .card)) in omega (arith, e, h)
 
 -- question 1: whole memory frames, as many as are said
 abbrev pub MemorySaid : ℕ → ℕ → Type 0
