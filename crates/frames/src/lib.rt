@@ -2,11 +2,11 @@
 pub mod advance;
 pub mod answer;
 pub mod change;
-pub mod kind;
+mod kind;
 pub mod load;
 pub mod page_out;
-pub mod place;
+mod place;
 pub mod question;
-pub mod rising;
+mod rising;
 pub mod snapshot;
 pub mod start;

@@ -1,8 +1,11 @@
 -- DEMAND 2, the statement.
 --
--- Take any card that a start accepts, and any list of calls after it without a further start, each lent what the last one left. Then every answer is the plain
--- machine's: a table of pages and counts under document 01's questions, each number by a test or a sum of its own. And the card is the first one with the machine's
--- blocks put down in turn. No call is answered 1, 2 or 3.
+-- Take any card that a start accepts, and any list of calls after it without a further start, each lent what the last
+-- one left. Then every answer is the plain machine's: a table of pages and counts under document 01's questions. And
+-- the card is the first one with the machine's blocks put down in turn. No call is answered 1, 2 or 3.
+--
+-- The machine asks 12 to 14, 16, 17, 19 and 20 by a test or a sum of its own, and 10 and 28 of its own counts and its
+-- own account of flushes. 9, 11, 15 and 18 are the same text on both sides: one that is wrong is wrong on both.
 -- Assumes nothing.
 use Prim.Native.Nat.{ℕ}
 use mathlib.Core.List.{List, [], _∷_}

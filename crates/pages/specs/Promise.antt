@@ -54,12 +54,9 @@ countedAs (Refused n) = refused n
 
 -- ---- pages
 
--- the place of an OID by a record's ranges, by those of the record that is lent, and what is made of it
-abbrev pub placeIn : Geometry → ℕ → Lookup
-placeIn g oid = locate (rangesOf (g .ranges) (g .count)) (1 + g .area) oid
-
+-- the place of an OID by what the record that is lent means, and what is made of it
 abbrev pub addressOf : Lent → ℕ → Lookup
-addressOf l oid = placeIn (l .store .geometry) oid
+addressOf l oid = locate (meaningOf l .ranges) (1 + meaningOf l .area) oid
 
 unfoldable pub atPlace : {A : Type 0} → A → Lookup → (Address → A) → A
 atPlace other Outside f = other
@@ -154,6 +151,10 @@ pub record FormatKept (area : ℕ) (numbers before : List ℕ) (a : Answer) (car
   pub card-is : card ≡ cond (eqb (firstNo (formatAsks area numbers before)) 0) (formatCard area (rangesIn numbers) before) before
 
 -- ---- what the parts of the calls promise
+
+-- the place of an OID by a record's area and ranges
+abbrev pub placeIn : Geometry → ℕ → Lookup
+placeIn g oid = locate (rangesOf (g .ranges) (g .count)) (1 + g .area) oid
 
 -- a page that a call names by its OID: question 9's number, or 0 and its place. Its entry is one of a pot's in any case
 pub record NamedIs (g : Geometry) (oid : ℕ) (r : Named) : Type 0 where

@@ -1,4 +1,5 @@
-// The page that a call names: questions 9 and 10, its place, and its zero flag.
+// The page that a call names: its place (question 9), question 10 with the one that is asked behind it, 11 or 15, and
+// its zero flag.
 use card::pot;
 use card::range;
 use card::range::Address;
