@@ -1,6 +1,8 @@
-//! Random cards, from the smallest to the largest.
+//! Random cards, from the smallest to the largest. The model is not asked
+//! whether it allows one, so that it keeps none from the trials.
 
 use crate::rng::Rng;
+use model::geometry::RUN;
 use model::{Geometry, Range};
 
 #[derive(Clone, Copy, Debug, PartialEq)]
@@ -29,47 +31,25 @@ pub fn size(rng: &mut Rng) -> Size {
 }
 
 pub fn random(rng: &mut Rng, size: Size) -> Geometry {
-    loop {
-        let drawn = match size {
-            Size::Small => {
-                let area = small_area(rng);
-                of_pages(rng, area, 1, 6)
-            }
-            Size::Middle => {
-                let area = middle_area(rng);
-                of_pages(rng, area, 1, 240)
-            }
-            Size::Wide => {
-                let area = wide_area(rng);
-                of_pages(rng, area, 70, 400)
-            }
-            Size::Large => {
-                let (area, blocks) = (rng.between(8, 512), rng.between(2000, 65_535));
-                of_blocks(rng, area, blocks)
-            }
-            Size::Largest => {
-                let area = rng.pick(&[8, 64, 511, 512]);
-                of_blocks(rng, area, 65_536)
-            }
-        };
-        if let Some(geometry) = drawn {
-            return geometry;
+    let (area, pages) = match size {
+        Size::Small => (small_area(rng), pages(rng, 1, 6)),
+        Size::Middle => (middle_area(rng), pages(rng, 1, 240)),
+        Size::Wide => (wide_area(rng), pages(rng, 70, 400)),
+        Size::Large => {
+            let (area, blocks) = (rng.between(8, 512), rng.between(2000, 65_535));
+            (area, filling(rng, blocks - 1 - area))
         }
-    }
-}
-
-/// Ranges of that many pages, and the blocks that they take.
-fn of_pages(rng: &mut Rng, area: usize, least: usize, most: usize) -> Option<Geometry> {
-    let pages = pages(rng, least, most);
+        Size::Largest => {
+            let area = rng.pick(&[8, 64, 511, 512]);
+            (area, filling(rng, 65_535 - area))
+        }
+    };
     let home: usize = pages.iter().map(|n| blocks(*n)).sum();
-    Geometry::new(1 + area + home, area, &with_oids(rng, &pages))
-}
-
-/// Ranges that take all blocks; `None` if no n of the last one does.
-fn of_blocks(rng: &mut Rng, area: usize, blocks: usize) -> Option<Geometry> {
-    let mut pages = pages(rng, 1, blocks / 16);
-    fill_up(blocks - 1 - area, &mut pages)?;
-    Geometry::new(blocks, area, &with_oids(rng, &pages))
+    Geometry {
+        blocks: 1 + area + home,
+        area,
+        ranges: with_oids(rng, &pages),
+    }
 }
 
 fn small_area(rng: &mut Rng) -> usize {
@@ -103,13 +83,24 @@ fn pages(rng: &mut Rng, least: usize, most: usize) -> Vec<u32> {
         .collect()
 }
 
-/// Makes the last range take the home blocks that the others leave.
+/// Ranges that take all home blocks. Not every number of ranges can.
+fn filling(rng: &mut Rng, home: usize) -> Vec<u32> {
+    loop {
+        let mut pages = pages(rng, 1, home / 16);
+        if fill_up(home, &mut pages).is_some() {
+            return pages;
+        }
+    }
+}
+
+/// Makes the last range take the home blocks that the others leave, if some n
+/// does.
 fn fill_up(home: usize, pages: &mut [u32]) -> Option<()> {
     let (last, others) = pages.split_last_mut()?;
     let taken: usize = others.iter().map(|n| blocks(*n)).sum();
     let left = home.checked_sub(taken)?;
-    *last = (left - left.div_ceil(103)) as u32;
-    Some(())
+    *last = (left - left.div_ceil(1 + RUN)) as u32;
+    (*last > 0 && blocks(*last) == left).then_some(())
 }
 
 fn blocks(pages: u32) -> usize {
@@ -118,7 +109,7 @@ fn blocks(pages: u32) -> usize {
 
 /// Gives ranges their first OIDs: with and without gaps, from 0 on, up to
 /// 4,294,967,295, or between.
-fn with_oids(rng: &mut Rng, pages: &[u32]) -> Vec<u32> {
+fn with_oids(rng: &mut Rng, pages: &[u32]) -> Vec<Range> {
     let gaps: Vec<u64> = pages
         .iter()
         .map(|_| rng.pick(&[0, 0, 1, 7, 1000, 100_000_000]))
@@ -130,11 +121,14 @@ fn with_oids(rng: &mut Rng, pages: &[u32]) -> Vec<u32> {
         1 => spare,
         _ => rng.next() % (spare + 1),
     };
-    let mut numbers = Vec::new();
+    let mut ranges = Vec::new();
     for (n, gap) in pages.iter().zip(gaps) {
         oid += gap;
-        numbers.extend([oid as u32, *n]);
+        ranges.push(Range {
+            first: oid as u32,
+            pages: *n,
+        });
         oid += u64::from(*n);
     }
-    numbers
+    ranges
 }
