@@ -5,6 +5,9 @@ use crate::rng::Rng;
 use model::geometry::RUN;
 use model::{Geometry, Range};
 
+/// Pages that a run has at least, where four runs fill a generation.
+pub const FULL_RUN: usize = 62;
+
 #[derive(Clone, Copy, Debug, PartialEq)]
 pub enum Size {
     /// 11 to some 60 blocks, with an area that is soon full.
@@ -13,6 +16,8 @@ pub enum Size {
     Middle,
     /// An area of 136 to 512 blocks, for directories of several blocks.
     Wide,
+    /// An area of 512 blocks, for generations that take all of H.
+    Full,
     /// Any number of blocks from 2,000 to 65,535.
     Large,
     /// 65,536 blocks.
@@ -24,7 +29,8 @@ pub fn size(rng: &mut Rng) -> Size {
     match rng.below(1000) {
         0..2 => Size::Largest,
         2..6 => Size::Large,
-        6..34 => Size::Wide,
+        6..9 => Size::Full,
+        9..34 => Size::Wide,
         34..134 => Size::Middle,
         _ => Size::Small,
     }
@@ -35,6 +41,7 @@ pub fn random(rng: &mut Rng, size: Size) -> Geometry {
         Size::Small => (small_area(rng), pages(rng, 1, 6)),
         Size::Middle => (middle_area(rng), pages(rng, 1, 240)),
         Size::Wide => (wide_area(rng), pages(rng, 70, 400)),
+        Size::Full => (512, full_runs(rng)),
         Size::Large => {
             let (area, blocks) = (rng.between(8, 512), rng.between(2000, 65_535));
             (area, filling(rng, blocks - 1 - area))
@@ -80,6 +87,15 @@ fn pages(rng: &mut Rng, least: usize, most: usize) -> Vec<u32> {
     };
     (0..ranges)
         .map(|_| rng.between(least, most) as u32)
+        .collect()
+}
+
+/// Ranges with four runs or more, each long enough for a full generation.
+fn full_runs(rng: &mut Rng) -> Vec<u32> {
+    let ranges = rng.pick(&[1, 2, 4, 8]);
+    let before_last = (4usize.div_ceil(ranges) - 1) * RUN;
+    (0..ranges)
+        .map(|_| (before_last + rng.between(FULL_RUN, RUN)) as u32)
         .collect()
 }
 

@@ -171,7 +171,7 @@ impl Cuts {
     }
 }
 
-fn add_all(sums: &mut [u64], more: &[u64]) {
+pub fn add_all(sums: &mut [u64], more: &[u64]) {
     for (sum, more) in sums.iter_mut().zip(more) {
         *sum += more;
     }

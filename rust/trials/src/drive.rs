@@ -149,9 +149,7 @@ impl Down {
             Down::All => {}
             Down::Any(seed) => {
                 let mut rng = Rng::new(*seed);
-                for i in (1..order.len()).rev() {
-                    order.swap(i, rng.below(i + 1));
-                }
+                rng.shuffle(&mut order);
                 order.truncate(rng.below(order.len() + 1));
             }
             Down::Blocks(blocks) => {

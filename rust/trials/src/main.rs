@@ -7,6 +7,7 @@ mod cuts;
 mod doctored;
 mod drive;
 mod library;
+mod limits;
 mod list;
 mod mix;
 mod parts;
@@ -116,7 +117,8 @@ fn print_summary(options: &Options, lists: &Tally, doctored: &Tally, begun: Inst
         lists.cuts.within_writes(),
         lists.looks
     );
-    print!("{}{}", lists.table(), lists.cuts.table());
+    let (limits, cuts) = (lists.limits.table(), lists.cuts.table());
+    print!("{}{limits}{cuts}", lists.table());
     println!(
         "{} doctored records, {} doctored cards, {} calls on them",
         doctored.doctored_records,

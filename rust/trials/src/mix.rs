@@ -1,6 +1,7 @@
 //! Random lists: valid, refused and absurd calls, cuts and doctored cards.
 
 mod absurd;
+mod full;
 
 use crate::call::Call;
 use crate::cards::{self, Size};
@@ -62,14 +63,18 @@ pub fn list(seed: u64) -> List {
 pub fn list_of_size(mut rng: Rng, size: Size) -> List {
     let geometry = cards::random(&mut rng, size);
     let filler = rng.pick(&[0, 1]) * rng.next();
-    let steps = match size {
+    let count = match size {
         Size::Small => rng.between(100, 800),
         Size::Middle => rng.between(100, 800),
         Size::Wide => rng.between(500, 2500),
-        Size::Large | Size::Largest => rng.between(100, 300),
+        Size::Full | Size::Large | Size::Largest => rng.between(100, 300),
     };
     let mut mix = Mix::new(rng, geometry.clone(), size);
-    let mut steps = mix.steps(steps);
+    let mut steps = Vec::new();
+    if size == Size::Full {
+        mix.full_generations(&mut steps);
+    }
+    steps.extend(mix.steps(count));
     if size == Size::Largest {
         steps.extend(mix.one_block_more());
     }
@@ -92,17 +97,17 @@ pub fn some_steps(rng: Rng, geometry: Geometry) -> Vec<Step> {
 
 impl Mix {
     fn new(mut rng: Rng, geometry: Geometry, size: Size) -> Mix {
-        let wide = size == Size::Wide;
+        let wide = matches!(size, Size::Wide | Size::Full);
         let hot = match size {
             Size::Small => rng.between(1, 6),
             Size::Middle | Size::Large | Size::Largest => rng.between(2, 40),
-            Size::Wide => rng.between(40, 400),
+            Size::Wide | Size::Full => rng.between(40, 400),
         };
         let weights = rng.pick(&WEIGHTS);
         let frames = rng.pick(&[4, 6, 8, 16, 64]);
         let cuts = match size {
             Size::Small | Size::Middle => rng.pick(&[5, 60, 150]),
-            Size::Wide => rng.pick(&[0, 1, 3]),
+            Size::Wide | Size::Full => rng.pick(&[0, 1, 3]),
             Size::Large | Size::Largest => rng.pick(&[0, 12]),
         };
         let mut mix = Mix {
@@ -263,11 +268,19 @@ impl Mix {
             0 => (0, BLOCK),
             1 => (BLOCK - 1, 1),
             2 => (self.rng.between(0, BLOCK), 0),
-            _ => {
-                let at = self.rng.below(BLOCK);
-                (at, self.rng.between(1, BLOCK - at))
-            }
+            _ => return self.change(oid),
         };
+        self.write_at(oid, at, length)
+    }
+
+    /// A write of a byte or more.
+    fn change(&mut self, oid: u32) -> Call {
+        let at = self.rng.below(BLOCK);
+        let length = self.rng.between(1, BLOCK - at);
+        self.write_at(oid, at, length)
+    }
+
+    fn write_at(&mut self, oid: u32, at: usize, length: usize) -> Call {
         Call::Write {
             oid,
             count: 0,

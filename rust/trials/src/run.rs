@@ -128,7 +128,7 @@ impl<L: Library, R: Reference> Trial<'_, L, R> {
             }
             Call::Start => {
                 self.frames = lent.memory / BLOCK;
-                self.look_at_all()
+                self.look_after_start()
             }
             _ => Ok(()),
         }
@@ -211,7 +211,7 @@ impl<L: Library, R: Reference> Trial<'_, L, R> {
             self.tell_drive(&Call::Start, &made);
             self.enter(&Call::Start, &made.answer);
         }
-        self.look_at_all()
+        self.look_after_start()
     }
 
     /// A card is doctored at rest: with all writes flushed, and started anew.

@@ -3,6 +3,7 @@
 use crate::call::{Answer, Call, NAMES};
 use crate::cuts::Cuts;
 use crate::doctored::broken::SENTENCES;
+use crate::limits::Limits;
 use model::Kind;
 use std::collections::BTreeSet;
 
@@ -21,9 +22,6 @@ const POSSIBLE: [&[u32]; 9] = [
 
 const START: usize = 1;
 
-/// Lists must come to a directory of four blocks.
-const DEEP: usize = 192;
-
 /// Numbers that only doctored records and cards bring about.
 fn needs_doctoring(row: usize, number: u32) -> bool {
     number == 2 || (row == START && (6..=8).contains(&number))
@@ -37,6 +35,7 @@ pub struct Tally {
     pub fullest: usize,
     pub lists: u64,
     pub cuts: Cuts,
+    pub limits: Limits,
     /// Blocks of the largest card that was started.
     largest: usize,
     /// The lengths of memory that were lent to a start, in frames.
@@ -87,6 +86,7 @@ impl Tally {
         self.fullest = self.fullest.max(other.fullest);
         self.lists += other.lists;
         self.cuts.add(&other.cuts);
+        self.limits.add(&other.limits);
         self.looks += other.looks;
         self.doctored_records += other.doctored_records;
         self.doctored_cards += other.doctored_cards;
@@ -101,15 +101,13 @@ impl Tally {
                 missing.push(format!("advance {kind:?}"));
             }
         }
-        if self.fullest <= DEEP {
-            missing.push(format!("a directory of more than {DEEP} entries"));
-        }
         if self.largest < 65_536 {
             missing.push("a card of 65,536 blocks".into());
         }
         for frames in [4, 64].iter().filter(|n| !self.frames.contains(n)) {
             missing.push(format!("a memory of {frames} frames"));
         }
+        missing.extend(self.limits.missing());
         missing.extend(self.cuts.missing());
         missing
     }

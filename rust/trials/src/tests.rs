@@ -27,6 +27,11 @@ fn lists() -> impl Iterator<Item = List> {
     (0..LISTS).map(|i| mix::list_of_size(Rng::part(7, i), Size::Small))
 }
 
+/// A list with generations of 251 entries.
+fn full_list() -> List {
+    mix::list_of_size(Rng::new(7), Size::Full)
+}
+
 fn fails<R: Reference>(fault: Fault, reference: R, list: &List) -> bool {
     let mut library = Faulty::new(fault);
     run(&mut library, reference, list, &mut Tally::default()).is_err()
@@ -34,7 +39,7 @@ fn fails<R: Reference>(fault: Fault, reference: R, list: &List) -> bool {
 
 /// Finds a list that fails, makes it short and says its steps.
 fn caught(mut fails: impl FnMut(&List) -> bool) -> Vec<Step> {
-    let list = lists().find(|list| fails(list)).expect("no list fails");
+    let list = lists().find(&mut fails).expect("no list fails");
     let short = shrink(list, &mut fails);
     println!("{short}");
     short.steps
@@ -62,6 +67,14 @@ fn caught_by_run(fault: Fault, list: &List) {
     let failure = failure(fault).expect("the run does not fail");
     println!("{list}{failure}");
     assert!(failure.what.contains("the book has"));
+}
+
+/// Caught by the model's answer to a change of a full generation.
+fn caught_when_full(fault: Fault, what: &str) {
+    let (mut library, model) = (Faulty::new(fault), Model::new(Vec::new()));
+    let result = run(&mut library, model, &full_list(), &mut Tally::default());
+    let failure = result.expect_err("the list does not fail");
+    assert_eq!(failure.what, what);
 }
 
 #[test]
@@ -146,6 +159,26 @@ fn page_out_while_a_flush_is_due() {
     caught_by_run(Fault::PageOutWhileOwed, &runs::block_released(false));
 }
 
+#[test]
+fn entry_251_lost() {
+    assert!(fails(
+        Fault::EntryLost,
+        Model::new(Vec::new()),
+        &full_list()
+    ));
+    caught_by_run(Fault::EntryLost, &full_list());
+}
+
+#[test]
+fn entry_251_refused() {
+    caught_when_full(Fault::EntryRefused, "answers 12, the model done");
+}
+
+#[test]
+fn entry_252_taken() {
+    caught_when_full(Fault::EntryTooMany, "answers done, the model 12");
+}
+
 /// Doctoring must see a slip, and no list may.
 fn seen(result: Result<(), Failed>) -> String {
     match result {
@@ -218,6 +251,8 @@ fn what_was_never_seen_is_told() {
     assert!(!told("a cut in H that leaves torn"));
     assert!(told("a card of 65,536 blocks"));
     assert!(told("a memory of 64 frames"));
+    assert!(told("a generation of 251 entries refused one change more"));
+    assert!(told("a generation of 251 entries migrated"));
     assert!(told("100000 cuts with two or more unflushed writes"));
     assert!(told("all 5 orders of 2 unflushed writes"));
     assert!(told("all 65 orders of 4 unflushed writes"));

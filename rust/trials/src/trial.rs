@@ -4,12 +4,13 @@
 use crate::call::{Answer, Buffer, Call};
 use crate::drive::Drive;
 use crate::library::{Library, Record, PADDING, RECORD};
+use crate::limits::FULL;
 use crate::list::Lending;
 use crate::reference::{Reference, Reply};
 use crate::rng::Rng;
 use crate::stock::{difference, Stock};
 use crate::tally::Tally;
-use model::blocks::{get, Block};
+use model::blocks::{get, number, Block, TRAILER_AT};
 use model::geometry::BLOCK;
 use model::{Book, Geometry, Lent};
 use std::collections::BTreeSet;
@@ -18,7 +19,8 @@ use std::collections::BTreeSet;
 /// the reported block and its neighbours are, and the whole card after each
 /// format and start, after every 32nd call and at the end of the list.
 const COMPARED_WHOLE: usize = 128;
-/// Of cards with more pages than this only a sample of OIDs is looked at.
+/// Of cards with more pages than this, and no full directory, only a sample of
+/// OIDs is looked at.
 const LOOKED_AT_WHOLE: usize = 48;
 /// Of the OIDs that calls have named, so many are looked at.
 const NAMED_LOOKED_AT: usize = 256;
@@ -146,15 +148,18 @@ impl<'t, L: Library, R: Reference> Trial<'t, L, R> {
         })
     }
 
-    /// A start shows what is lent, a snapshot how full a directory has become.
+    /// A start shows what is lent, a snapshot how full a directory has become,
+    /// and some answers that a limit is reached.
     fn note_sizes(&mut self, call: &Call, answer: &Answer, lent: Lent) {
         if *call == Call::Start && answer.is_done() {
             self.tally
                 .count_start(lent.card / BLOCK, lent.memory / BLOCK);
         }
-        let store = self.reference.model().store.as_ref();
-        let pending = store.and_then(|store| store.pending.as_ref());
-        if let (Call::Snapshot, Some(pending)) = (call, pending) {
+        let Some(store) = &self.reference.model().store else {
+            return;
+        };
+        self.tally.limits.count_full(answer, store);
+        if let (Call::Snapshot, Some(pending)) = (call, &store.pending) {
             self.tally.fullest = self.tally.fullest.max(pending.changes.e());
         }
     }
@@ -278,6 +283,22 @@ impl<'t, L: Library, R: Reference> Trial<'t, L, R> {
         Ok(())
     }
 
+    /// Does the card hold a full directory?
+    fn has_full_directory(&self) -> bool {
+        let card = &self.stock.card;
+        let trailer = number(card, 8) as usize;
+        trailer > 0 && number(card, trailer * BLOCK + TRAILER_AT + 12) as usize == FULL
+    }
+
+    /// A look after a start, at all OIDs if it has found a full directory.
+    pub fn look_after_start(&mut self) -> Result<(), String> {
+        self.look_at_all()?;
+        if self.book.is_some() && self.has_full_directory() {
+            self.tally.limits.count_found();
+        }
+        Ok(())
+    }
+
     /// Looks at all OIDs, or at a sample of them, which changes nothing.
     pub fn look_at_all(&mut self) -> Result<(), String> {
         let lent = self.lent(Lending::default());
@@ -294,10 +315,11 @@ impl<'t, L: Library, R: Reference> Trial<'t, L, R> {
         Ok(())
     }
 
-    /// All OIDs of a small card; else those named, the borders and some more.
+    /// All OIDs of a small card or behind a full directory; else those named,
+    /// the borders and some more.
     fn oids(&self) -> Vec<u32> {
         let pages: usize = self.geometry.ranges.iter().map(|r| r.pages as usize).sum();
-        if pages <= LOOKED_AT_WHOLE {
+        if pages <= LOOKED_AT_WHOLE || self.has_full_directory() {
             let ranges = self.geometry.ranges.iter();
             return ranges
                 .flat_map(|r| (0..r.pages).map(|i| r.first + i))

@@ -1,5 +1,7 @@
-//! The model as a library, with one fault of document 01's list or of
-//! document 02's flushes.
+//! The model as a library, with one fault: of document 01's list, of document
+//! 02's flushes, or at a limit.
+
+mod limits;
 
 use crate::call::{Answer, Call};
 use crate::library::{Library, Loan, RECORD};
@@ -34,6 +36,12 @@ pub enum Fault {
     NoFlushAfterStart,
     /// Page-out is let through while the flush after H or a start is due.
     PageOutWhileOwed,
+    /// Start loses the 251st entry of a directory.
+    EntryLost,
+    /// A 251st entry is refused 12.
+    EntryRefused,
+    /// A 252nd entry is taken.
+    EntryTooMany,
 }
 
 pub struct Faulty {
@@ -142,13 +150,11 @@ impl Faulty {
         }
     }
 
-    fn refuse_full(&mut self, call: &Call, lent: Lent, bytes: &[u8]) -> Reply {
+    /// Refuses a write that makes the store full.
+    fn refuse(&mut self, full: fn(&Store) -> bool, call: &Call, lent: Lent, bytes: &[u8]) -> Reply {
         let before = self.model.clone();
         let mut reply = self.model.make(call, lent, bytes);
-        let full = |model: &Model| {
-            let store = model.store.as_ref();
-            store.is_some_and(|store| store.current.size() == store.geometry.half())
-        };
+        let full = |model: &Model| model.store.as_ref().is_some_and(full);
         if reply.answer == Answer::Done && full(&self.model) && !full(&before) {
             self.model = before;
             reply.answer = Answer::Refused(12);
@@ -201,7 +207,12 @@ impl Faulty {
         let old = self.old_bytes(call);
         let reply = match self.fault {
             Fault::ReleasedEarly => return self.change_released(call, lent, bytes),
-            Fault::TwelveTooEarly => return self.refuse_full(call, lent, bytes),
+            Fault::TwelveTooEarly => {
+                let full = |store: &Store| store.current.size() == store.geometry.half();
+                return self.refuse(full, call, lent, bytes);
+            }
+            Fault::EntryRefused => return self.refuse(limits::is_full, call, lent, bytes),
+            Fault::EntryTooMany => return self.take_entry(call, lent, bytes),
             Fault::WritesNothing => return self.model.clone().make(call, lent, bytes),
             _ => self.model.make(call, lent, bytes),
         };
@@ -226,6 +237,7 @@ impl Reference for Faulty {
             (Fault::NoFlushAfterHeader, Call::Advance) => self.owe_nothing(call, lent),
             (Fault::NoFlushAfterStart, Call::Start) => self.owe_nothing(call, lent),
             (Fault::PageOutWhileOwed, Call::PageOut) => self.page_out_while_owed(lent),
+            (Fault::EntryLost, Call::Start) => self.lose_entry(lent),
             (_, Call::Write { .. }) => self.change(call, lent, bytes),
             _ => {
                 if self.fault == Fault::NoTrailer && *call == Call::Advance {
@@ -249,16 +261,17 @@ impl Library for Faulty {
             card: loan.card.len(),
             memory: loan.memory.len(),
         };
-        let card = self.model.card.clone();
+        let mut before = Vec::new();
         if matches!(call, Call::Format { .. } | Call::Start) {
-            self.model.card = loan.card.to_vec();
+            before = std::mem::replace(&mut self.model.card, loan.card.to_vec());
             self.unreported.clear();
         }
         let reply = Reference::make(self, call, lent, buffer);
-        if reply.answer.is_done() {
+        let reads = matches!(call, Call::Key { .. } | Call::Read { .. });
+        if reply.answer.is_done() && !reads {
             loan.card.copy_from_slice(&self.model.card);
         } else if matches!(call, Call::Format { .. }) {
-            self.model.card = card;
+            self.model.card = before;
         }
         if let Some(page) = &reply.page {
             buffer.copy_from_slice(page);
