@@ -178,7 +178,7 @@ pub fn add_all(sums: &mut [u64], more: &[u64]) {
 }
 
 /// Each name with its number.
-fn named(names: &[&str], numbers: &[u64]) -> String {
+pub fn named(names: &[&str], numbers: &[u64]) -> String {
     let cells = names.iter().zip(numbers);
     let cells: Vec<String> = cells.map(|(name, n)| format!("{name} {n}")).collect();
     cells.join(" ")

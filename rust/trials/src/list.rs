@@ -34,6 +34,13 @@ pub enum Step {
     /// With all writes down, the kept count and flags of a page are rewritten,
     /// and the spare bytes of its pot.
     DoctorPot { oid: u32, count: u32, flags: u8 },
+    /// With all writes down, a start that is lent so many blocks finds this A
+    /// and these ranges in the header, which is then put back.
+    DoctorGeometry {
+        blocks: usize,
+        area: u32,
+        ranges: Vec<u32>,
+    },
 }
 
 /// Bytes lent of card and memory; `None` is the right length.
@@ -132,6 +139,15 @@ impl fmt::Display for Step {
             Step::DoctorPot { oid, count, flags } => write!(
                 f,
                 "flushed, OID {oid} gets count {count}, flags {flags}, start"
+            ),
+            Step::DoctorGeometry {
+                blocks,
+                area,
+                ranges,
+            } => write!(
+                f,
+                "flushed, header gets A {area} ranges {ranges:?}, start with {blocks} blocks, \
+                 header put back, start"
             ),
         }
     }

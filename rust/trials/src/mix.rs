@@ -78,6 +78,7 @@ pub fn list_of_size(mut rng: Rng, size: Size) -> List {
     if size == Size::Largest {
         steps.extend(mix.one_block_more());
     }
+    steps.extend(mix.past_limits());
     List {
         geometry,
         frames: mix.frames(),

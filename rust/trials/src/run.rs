@@ -97,6 +97,11 @@ impl<L: Library, R: Reference> Trial<'_, L, R> {
             }
             Step::DoctorCommit(commit) => self.doctor_commit(*commit),
             Step::DoctorPot { oid, count, flags } => self.doctor_pot(*oid, *count, *flags),
+            Step::DoctorGeometry {
+                blocks,
+                area,
+                ranges,
+            } => self.doctor_geometry(*blocks, *area, ranges),
         }
     }
 
@@ -263,6 +268,22 @@ impl<L: Library, R: Reference> Trial<'_, L, R> {
         if let Some(book) = &mut self.book {
             book.doctor(oid, Page { count, bytes });
         }
+        self.restart(Restart::plain(self.frames))
+    }
+
+    /// A start that need not be done.
+    fn doctor_geometry(&mut self, blocks: usize, area: u32, ranges: &[u32]) -> Result<(), String> {
+        self.rest()?;
+        let header = get(&self.stock.card, 0);
+        let told = [&[area, ranges.len() as u32 / 2], ranges].concat();
+        self.doctor(|card| {
+            for (i, number) in told.iter().enumerate() {
+                put_number(card, 12 + 4 * i, *number);
+            }
+        });
+        let card = Some(blocks * BLOCK);
+        self.make(&Call::Start, Lending { card, memory: None })?;
+        self.doctor(|card| put(card, 0, &header));
         self.restart(Restart::plain(self.frames))
     }
 

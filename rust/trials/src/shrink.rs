@@ -138,6 +138,7 @@ fn simpler(step: &Step) -> Vec<Step> {
         &Step::DoctorPot { oid, count, flags } => [(0, 1), (count, 1), (0, flags)]
             .map(|(count, flags)| Step::DoctorPot { oid, count, flags })
             .to_vec(),
+        Step::DoctorGeometry { .. } => Vec::new(),
     }
 }
 

@@ -8,6 +8,7 @@ mod runs;
 use crate::call::Call;
 use crate::cards::Size;
 use crate::doctored::{cards, records, Failed, STATES};
+use crate::limits::{told, LIMITS};
 use crate::list::{Lending, List, Step};
 use crate::mix;
 use crate::reference::Reference;
@@ -17,7 +18,8 @@ use crate::shrink::shrink;
 use crate::tally::Tally;
 use careless::{Careless, Slip};
 use faulty::{Fault, Faulty};
-use model::Model;
+use model::geometry::BLOCK;
+use model::{Lent, Model};
 
 const LISTS: u64 = 200;
 /// Steps of a list that is short enough to be read: three commits, and more.
@@ -39,7 +41,8 @@ fn fails<R: Reference>(fault: Fault, reference: R, list: &List) -> bool {
 
 /// Finds a list that fails, makes it short and says its steps.
 fn caught(mut fails: impl FnMut(&List) -> bool) -> Vec<Step> {
-    let list = lists().find(&mut fails).expect("no list fails");
+    let mut lists = lists().chain([full_list()]);
+    let list = lists.find(&mut fails).expect("no list fails");
     let short = shrink(list, &mut fails);
     println!("{short}");
     short.steps
@@ -159,6 +162,24 @@ fn page_out_while_a_flush_is_due() {
     caught_by_run(Fault::PageOutWhileOwed, &runs::block_released(false));
 }
 
+/// For each row of `LIMITS`, the row of the same limit kept.
+const KEPT: [usize; 8] = [1, 1, 2, 2, 5, 5, 6, 6];
+
+/// A 512 refused, A 513 and nine ranges let through, and their like, by lists
+/// with a card that keeps the limit.
+#[test]
+fn limits_of_question_5() {
+    for (row, kept) in KEPT.into_iter().enumerate() {
+        for start in [false, true] {
+            let fault = Fault::Limit { row, start };
+            let steps = caught(|list| {
+                LIMITS[kept].decides(&list.geometry) && fails(fault, Model::new(Vec::new()), list)
+            });
+            assert!(steps.len() <= 1);
+        }
+    }
+}
+
 #[test]
 fn entry_251_lost() {
     assert!(fails(
@@ -251,6 +272,8 @@ fn what_was_never_seen_is_told() {
     assert!(!told("a cut in H that leaves torn"));
     assert!(told("a card of 65,536 blocks"));
     assert!(told("a memory of 64 frames"));
+    assert!(told("format 0 of A 512 on a card filled exactly"));
+    assert!(told("start 5 of 9 ranges on a card filled exactly"));
     assert!(told("a generation of 251 entries refused one change more"));
     assert!(told("a generation of 251 entries migrated"));
     assert!(told("100000 cuts with two or more unflushed writes"));
@@ -261,6 +284,25 @@ fn what_was_never_seen_is_told() {
     assert!(told("a start over an unflushed T, then a cut"));
     let missing = Tally::default().missing_from_doctored();
     assert!(missing.contains(&"broken: head".to_string()));
+}
+
+/// A refusal counts for a limit if nothing else is wrong.
+#[test]
+fn limits_decide_alone() {
+    let decides = |blocks, area, ranges: &[u32]| {
+        let ranges = ranges.to_vec();
+        let (card, memory) = (blocks * BLOCK, 0);
+        let told = told(&Call::Format { area, ranges }, Lent { card, memory }, &[]);
+        told.is_some_and(|told| LIMITS.iter().any(|limit| limit.decides(&told)))
+    };
+    let nine: Vec<u32> = (0..9).flat_map(|oid| [oid, 1]).collect();
+    assert!(decides(518, 513, &nine[..4]));
+    assert!(decides(531, 512, &nine));
+    assert!(!decides(519, 513, &nine[..4]), "a block that is not filled");
+    assert!(!decides(532, 513, &nine), "two limits passed");
+    assert!(!decides(516, 513, &[0, 1, 1, 0]), "a range without pages");
+    assert!(!decides(519, 513, &[0, 2, 1, 1]), "ranges that overlap");
+    assert!(!decides(519, 513, &[0, 1, u32::MAX, 2]), "OIDs too large");
 }
 
 /// A list is worth little if its calls are all lent the wrong thing.

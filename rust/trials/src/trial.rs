@@ -4,7 +4,7 @@
 use crate::call::{Answer, Buffer, Call};
 use crate::drive::Drive;
 use crate::library::{Library, Record, PADDING, RECORD};
-use crate::limits::FULL;
+use crate::limits::{told, FULL};
 use crate::list::Lending;
 use crate::reference::{Reference, Reply};
 use crate::rng::Rng;
@@ -154,6 +154,9 @@ impl<'t, L: Library, R: Reference> Trial<'t, L, R> {
         if *call == Call::Start && answer.is_done() {
             self.tally
                 .count_start(lent.card / BLOCK, lent.memory / BLOCK);
+        }
+        if let Some(told) = told(call, lent, &self.stock.card) {
+            self.tally.limits.count_asked(call, answer, &told);
         }
         let Some(store) = &self.reference.model().store else {
             return;

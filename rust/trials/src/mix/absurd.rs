@@ -5,6 +5,7 @@ use crate::call::{Call, MOST_BYTES};
 use crate::list::{numbers, Lending, Step};
 use crate::stock::{CARD_SLACK, MEMORY};
 use model::geometry::BLOCK;
+use model::Geometry;
 
 impl Mix {
     /// A format, most often one that breaks a limit.
@@ -38,6 +39,33 @@ impl Mix {
             memory: None,
         };
         [Call::Format { area, ranges }, Call::Start].map(|call| Step::Call { call, lending })
+    }
+
+    /// Format and start with A or ranges just past a limit, on a card that they
+    /// fill exactly.
+    pub(super) fn past_limits(&self) -> Vec<Step> {
+        let Geometry { blocks, area, .. } = self.geometry;
+        let ranges = numbers(&self.geometry);
+        let mut past = Vec::new();
+        if area == 8 {
+            past.push((blocks - 1, 7, ranges.clone()));
+        }
+        if area == 512 {
+            past.push((blocks + 1, 513, ranges.clone()));
+        }
+        if ranges.len() == 2 {
+            past.push((1 + area, area, Vec::new()));
+        }
+        if let (16, Some(free)) = (ranges.len(), self.free_oid()) {
+            past.push((blocks + 2, area, [ranges, vec![free, 1]].concat()));
+        }
+        past.into_iter().flat_map(format_and_start).collect()
+    }
+
+    /// The OID after the last range, if there is one.
+    fn free_oid(&self) -> Option<u32> {
+        let last = self.geometry.ranges.last()?;
+        u32::try_from(last.end()).ok()
     }
 
     pub(super) fn wrong_memory(&mut self) -> usize {
@@ -100,4 +128,22 @@ impl Mix {
             _ => {}
         }
     }
+}
+
+/// Format of that many blocks, and a start on them by a doctored header.
+fn format_and_start((blocks, area, ranges): (usize, usize, Vec<u32>)) -> [Step; 2] {
+    let call = Call::Format {
+        area,
+        ranges: ranges.clone(),
+    };
+    let lending = Lending {
+        card: Some(blocks * BLOCK),
+        memory: None,
+    };
+    let start = Step::DoctorGeometry {
+        blocks,
+        area: area as u32,
+        ranges,
+    };
+    [Step::Call { call, lending }, start]
 }

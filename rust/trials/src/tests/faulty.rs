@@ -36,6 +36,11 @@ pub enum Fault {
     NoFlushAfterStart,
     /// Page-out is let through while the flush after H or a start is due.
     PageOutWhileOwed,
+    /// Format or start answers question 5 wrongly at this limit.
+    Limit {
+        row: usize,
+        start: bool,
+    },
     /// Start loses the 251st entry of a directory.
     EntryLost,
     /// A 251st entry is refused 12.
@@ -237,6 +242,8 @@ impl Reference for Faulty {
             (Fault::NoFlushAfterHeader, Call::Advance) => self.owe_nothing(call, lent),
             (Fault::NoFlushAfterStart, Call::Start) => self.owe_nothing(call, lent),
             (Fault::PageOutWhileOwed, Call::PageOut) => self.page_out_while_owed(lent),
+            (Fault::Limit { row, start: false }, Call::Format { .. })
+            | (Fault::Limit { row, start: true }, Call::Start) => self.pass_limit(row, call, lent),
             (Fault::EntryLost, Call::Start) => self.lose_entry(lent),
             (_, Call::Write { .. }) => self.change(call, lent, bytes),
             _ => {

@@ -2,12 +2,26 @@
 
 use super::Faulty;
 use crate::call::{Answer, Call};
-use crate::limits::FULL;
+use crate::limits::{told, FULL, LIMITS};
 use crate::reference::{Reference, Reply};
 use model::geometry::BLOCK;
 use model::{Lent, Store};
 
 impl Faulty {
+    /// Done becomes 5 and 5 done, where this limit decides.
+    pub(super) fn pass_limit(&mut self, row: usize, call: &Call, lent: Lent) -> Reply {
+        let told = told(call, lent, &self.model.card);
+        let mut reply = self.model.make(call, lent, &[]);
+        if told.is_some_and(|told| LIMITS[row].decides(&told)) {
+            reply.answer = match reply.answer {
+                Answer::Done => Answer::Refused(5),
+                Answer::Refused(5) => Answer::Done,
+                other => other,
+            };
+        }
+        reply
+    }
+
     pub(super) fn lose_entry(&mut self, lent: Lent) -> Reply {
         let reply = self.model.make(&Call::Start, lent, &[]);
         let store = self.model.store.as_mut();
