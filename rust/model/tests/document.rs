@@ -61,11 +61,56 @@ fn sizes_of_d_to_j() {
     assert_eq!(size(251, 251), 256);
 }
 
+/// Each on a card that A and the ranges fill exactly.
+#[test]
+fn limits_of_question_5() {
+    let allowed = |area: usize, ranges: u32| {
+        let numbers: Vec<u32> = (0..ranges).flat_map(|i| [i, 1]).collect();
+        Geometry::new(1 + area + 2 * ranges as usize, area, &numbers).is_some()
+    };
+    assert_eq!(
+        [7, 8, 512, 513].map(|area| allowed(area, 2)),
+        [false, true, true, false]
+    );
+    assert_eq!(
+        [0, 1, 8, 9].map(|ranges| allowed(8, ranges)),
+        [false, true, true, false]
+    );
+}
+
 #[test]
 fn second_fresh_page_of_k_is_refused() {
     let (mut model, lent) = small(2);
     assert_eq!(model.write(lent, 100, 0, 0, &[1]), Ok(()));
     assert_eq!(model.write(lent, 101, 0, 0, &[1]), Err(12));
+}
+
+/// Four runs of 62 pages in memory of 64 frames: with its pot each page takes
+/// one place.
+#[test]
+fn generation_of_j_is_full() {
+    let card = (1 + 512 + 4 * 103) * BLOCK;
+    let memory = 64 * BLOCK;
+    let lent = Lent { card, memory };
+    let mut model = Model::new(vec![0; card]);
+    assert_eq!(model.format(card, 512, &[0, 408]), Ok(()));
+    assert_eq!(model.start(lent), Ok(()));
+    assert_eq!(model.advance(lent), Ok((F, 0)));
+    let oids: Vec<u32> = (0..4)
+        .flat_map(|run| (0..62).map(move |i| 102 * run + i))
+        .collect();
+    for oid in &oids[..247] {
+        if oid % 102 == 0 {
+            while model.page_out(lent).is_ok() {}
+        }
+        assert_eq!(model.write(lent, *oid, 0, 0, &[1]), Ok(()));
+    }
+    let current = model.store.as_ref().map(|store| &store.current);
+    assert_eq!(
+        current.map(|current| (current.p(), current.e())),
+        Some((251, 251))
+    );
+    assert_eq!(model.write(lent, oids[247], 0, 0, &[1]), Err(12));
 }
 
 #[test]
