@@ -110,7 +110,7 @@ enum lane_refusal {
     LANE_OID = 9,              /* mistyped, or of another card */
     LANE_COUNT = 10,           /* rescinded since the key was made: take a new key, if it is still yours */
     LANE_LENGTH = 11,          /* lend a buffer of 512 bytes; write within the page */
-    LANE_GENERATION_FULL = 12, /* advance until H, take a snapshot, advance: NEVER amid changes that belong together */
+    LANE_GENERATION_FULL = 12, /* advance to H, snapshot, advance: NEVER amid changes that belong together */
     LANE_AREA_FULL = 13,       /* advance until H */
     LANE_MEMORY_FULL = 14,     /* page out until the call is done; advance may end at 20 before it is */
     LANE_COUNT_END = 15,       /* the page can be written, and never rescinded again */
