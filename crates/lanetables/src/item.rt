@@ -55,10 +55,12 @@ pub fn restarted(advances: u32) -> u32 {
     number::get_u32(&page, 0)
 }
 
-// What format answers of a card of 13 blocks, which an area of 8 and two ranges of one page fill.
-pub fn formatted(ranges: &[u32]) -> u32 {
-    let mut card = [0u8; 6656];
-    pages::format::format(&mut card, 8, ranges)
+// What format answers of a card of so many blocks.
+pub fn formatted(blocks: usize, area: usize, ranges: &[u32]) -> u32
+    requires { ⌜ blocks ≤ 516 ⌝ }
+{
+    let mut card = [0u8; 264192];
+    pages::format::format(&mut card[0..512 * blocks], area, ranges)
 }
 
 // What a first write to an OID answers, on a card with the ranges 100 and 200 of one page each.

@@ -1,4 +1,5 @@
-// What document 01's lane tables leave to a program, cards of two ranges, and a refusal of each number with the call that gave it: a line each.
+// What document 01's lane tables leave to a program, cards of two ranges, a refusal of each number with the call that
+// gave it, and what each limit lets through: a line each.
 mod item;
 mod refusal;
 mod whole_run;
@@ -29,11 +30,11 @@ fn pair(name: &[u8], a: u32, b: u32) {
 
 // Numbers 1 to 8: what is lent, and the card.
 fn refused_by_form() {
-    line(b"start", refusal::memory_of_three());
+    line(b"start", refusal::memory_of(3));
     line(b"snapshot", refusal::record_apart());
     line(b"start", refusal::card_of_ten());
     line(b"start", refusal::no_layout());
-    line(b"format", refusal::small_area());
+    line(b"format", item::formatted(11, 7, &[100, 2]));
     line(b"start", refusal::trailer_without_commit());
     line(b"start", refusal::trailer_of_other_commit());
     line(b"start", refusal::entry_of_header());
@@ -47,14 +48,14 @@ fn refused_by_page() {
     line(b"write", item::second_write());
     line(b"write", refusal::three_generations());
     line(b"write", refusal::memory_full());
-    line(b"rescind", refusal::last_count());
+    line(b"rescind", refusal::rescind_at(4294967295));
 }
 
 // 16 to 20 and 28: snapshot, page-out, advance.
 fn refused_by_state() {
     line(b"snapshot", refusal::one_pending());
     line(b"snapshot", refusal::nothing_changed());
-    line(b"snapshot", refusal::last_commit());
+    line(b"snapshot", refusal::snapshot_at(4294967295));
     line(b"page-out", refusal::none_waits());
     line(b"advance", refusal::none_due());
     line(b"page-out", refusal::flush_owed());
@@ -62,18 +63,51 @@ fn refused_by_state() {
 
 // Ranges: two that fill the card, two that touch, out of order, overlapping, with a block left over; then OIDs of the second, between them, above them.
 fn two_ranges() {
-    line(b"format two ranges", item::formatted(&[100, 1, 200, 1]));
-    line(b"format touching", item::formatted(&[100, 1, 101, 1]));
-    line(b"format out of order", item::formatted(&[200, 1, 100, 1]));
-    line(b"format overlapping", item::formatted(&[100, 1, 100, 1]));
-    line(b"format block left over", item::formatted(&[100, 1]));
+    line(
+        b"format two ranges",
+        item::formatted(13, 8, &[100, 1, 200, 1]),
+    );
+    line(
+        b"format touching",
+        item::formatted(13, 8, &[100, 1, 101, 1]),
+    );
+    line(
+        b"format out of order",
+        item::formatted(13, 8, &[200, 1, 100, 1]),
+    );
+    line(
+        b"format overlapping",
+        item::formatted(13, 8, &[100, 1, 100, 1]),
+    );
+    line(b"format block left over", item::formatted(13, 8, &[100, 1]));
     line(
         b"format number left over",
-        item::formatted(&[100, 1, 200, 1, 300]),
+        item::formatted(13, 8, &[100, 1, 200, 1, 300]),
     );
     line(b"write 200", item::of_two_ranges(200));
     line(b"write 150", item::of_two_ranges(150));
     line(b"write 201", item::of_two_ranges(201));
+}
+
+// What each limit lets through, and what is past its other end. Memory of 3, an area of 7, and the last count and
+// commit number stand above, among the refusals.
+fn limits() {
+    line(b"memory of 4", refusal::memory_of(4));
+    line(b"memory of 64", refusal::memory_of(64));
+    line(b"memory of 65", refusal::memory_of(65));
+    let nine = [1, 1, 2, 1, 3, 1, 4, 1, 5, 1, 6, 1, 7, 1, 8, 1, 9, 1];
+    line(b"area of 8", item::formatted(11, 8, &nine[0..2]));
+    line(b"area of 512", item::formatted(515, 512, &nine[0..2]));
+    line(b"area of 513", item::formatted(516, 513, &nine[0..2]));
+    line(b"8 ranges", item::formatted(25, 8, &nine[0..16]));
+    line(b"9 ranges", item::formatted(27, 8, &nine));
+    line(b"last OID", item::formatted(11, 8, &[4294967295, 1]));
+    line(
+        b"past the last OID",
+        item::formatted(12, 8, &[4294967295, 2]),
+    );
+    line(b"rescind at 4294967294", refusal::rescind_at(4294967294));
+    line(b"snapshot at 4294967294", refusal::snapshot_at(4294967294));
 }
 
 fn main() {
@@ -90,4 +124,5 @@ fn main() {
     refused_by_form();
     refused_by_page();
     refused_by_state();
+    limits();
 }

@@ -5,6 +5,7 @@ use card::number;
 use frames::answer::Advance;
 use pages::answer::Count;
 use record::store::Store;
+ghost use Prim.Native.Nat.{_≤_};
 
 // What a start answers of a card.
 fn started(card: &[u8]) -> u32 {
@@ -12,12 +13,14 @@ fn started(card: &[u8]) -> u32 {
     d.answer
 }
 
-// 1
-pub fn memory_of_three() -> u32 {
+// 1: memory of so many frames
+pub fn memory_of(frames: usize) -> u32
+    requires { ⌜ frames ≤ 65 ⌝ }
+{
     let mut card = [0u8; 5632];
-    let memory = [0u8; 1536];
+    let memory = [0u8; 33280];
     pages::format::format(&mut card, 8, &[100, 1]);
-    let d = pages::start::start(&card, &memory);
+    let d = pages::start::start(&card, &memory[0..512 * frames]);
     d.answer
 }
 
@@ -39,12 +42,6 @@ pub fn card_of_ten() -> u32 {
 // 4
 pub fn no_layout() -> u32 {
     started(&[0u8; 5632])
-}
-
-// 5
-pub fn small_area() -> u32 {
-    let mut card = [0u8; 5632];
-    pages::format::format(&mut card, 7, &[100, 2])
 }
 
 // 6
@@ -130,14 +127,14 @@ pub fn memory_full() -> u32 {
     d.answer
 }
 
-// 15
-pub fn last_count() -> u32 {
+// 15: page 100 has this count
+pub fn rescind_at(count: u32) -> u32 {
     let mut card = [0u8; 5632];
     let mut memory = [0u8; 2048];
     whole_run::begin(&mut card, &memory, 8, 1);
-    number::put_u32(&mut card, 4608, 4294967295);
+    number::put_u32(&mut card, 4608, count);
     let d = pages::start::start(&card, &memory);
-    let e = pages::rescind::rescind(d.store, &card, &mut memory, 100, 4294967295);
+    let e = pages::rescind::rescind(d.store, &card, &mut memory, 100, count);
     e.answer
 }
 
@@ -159,13 +156,13 @@ pub fn nothing_changed() -> u32 {
     d.answer
 }
 
-// 18: header and trailer say the last commit number
-pub fn last_commit() -> u32 {
+// 18: header and trailer say this commit number
+pub fn snapshot_at(commit: u32) -> u32 {
     let mut card = [0u8; 5632];
     let mut memory = [0u8; 2048];
     whole_run::run(&mut card, &mut memory, 7);
-    number::put_u32(&mut card, 4, 4294967295);
-    number::put_u32(&mut card, 2544, 4294967295);
+    number::put_u32(&mut card, 4, commit);
+    number::put_u32(&mut card, 2544, commit);
     let d = pages::start::start(&card, &memory);
     let w = pages::write::write(d.store, &card, &mut memory, 100, 0, 0, &[8]);
     let e = pages::snapshot::snapshot(w.store, &card, &memory);
