@@ -8,7 +8,7 @@ use mathlib.Core.Path.{_≡_, refl}
 use Rattle.card.specs.Question.{firstNo}
 use Rattle.card.specs.Ring.{ringAt, generationSize}
 use Rattle.recovery.specs.Directory.{noteChange, insertByFrame, byFrame, downEntries, dirOf, turnOf}
-use Rattle.recovery.specs.Questions.{pageOutAsks}
+use Rattle.recovery.specs.Questions.{snapshotAsks, pageOutAsks}
 use Rattle.recovery.specs.State.{places, State, size, directoryOf, empty, owed}
 use Rattle.recovery.specs.Step.{queued, changeFrame, changeFrames, afterChange, afterSnapshot, Kind, page, directory, trailer, migration, header, flush, oldestBytes, outOf, trailerBlockNo, nextMigration, kindWrite, afterKind, migrationDue, advanceDue, pageOutWrite, afterPageOut}
 
@@ -99,6 +99,20 @@ turn-kept : (pageOutWrite again ≡ record { block = 1; bytes = 8 ∷ [] })
 unfolding again began pageOutWrite afterPageOut outOf oldestBytes afterKind afterChange changeFrames changeFrame
     queued turnOf noteChange places empty ringAt
 turn-kept = (refl, refl)
+
+-- a change after a snapshot leaves the bytes that wait for it
+waiting-kept : pageOutWrite (afterChange (record { frame = 10; bytes = 5 ∷ [] } ∷ []) (afterSnapshot again))
+    ≡ record { block = 1; bytes = 8 ∷ [] }
+unfolding again began pageOutWrite oldestBytes afterKind afterChange changeFrames changeFrame queued turnOf noteChange
+    afterSnapshot places size generationSize empty ringAt
+waiting-kept = refl
+
+-- a snapshot is refused 17 while nothing has changed, done after a change, and refused 16 while one is pending
+snapshot-asked : (firstNo (snapshotAsks began) ≡ 17) × (firstNo (snapshotAsks again) ≡ 0)
+    × (firstNo (snapshotAsks (afterSnapshot again)) ≡ 16)
+unfolding again began snapshotAsks afterKind afterChange changeFrames changeFrame queued turnOf noteChange
+    afterSnapshot places size generationSize empty ringAt firstNo
+snapshot-asked = (refl, refl, refl)
 
 -- a second snapshot once M 9 is made: what is left of migration comes after the trailer, before flush and header
 second : State
