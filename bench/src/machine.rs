@@ -1,6 +1,8 @@
-//! The machine that the table is made on, and the bytes that this process has written.
+//! The machine that the table is made on, where its files are, and the bytes that this process has
+//! written.
 
 use std::fs::read_to_string;
+use std::path::Path;
 use std::thread::available_parallelism;
 
 fn field<'a>(text: &'a str, name: &str) -> &'a str {
@@ -21,6 +23,26 @@ pub fn describe() -> String {
         kernel.trim(),
         load.split(' ').next().unwrap_or("unknown")
     )
+}
+
+/// The kind of the file system that a folder is on, and what is mounted there.
+fn file_system(folder: &Path) -> String {
+    let mounts = read_to_string("/proc/mounts").unwrap_or_default();
+    let fields = mounts
+        .lines()
+        .map(|line| line.split(' ').collect::<Vec<_>>());
+    fields
+        // A space within a path is an escape there.
+        .map(|mount| (mount[1].replace("\\040", " "), mount[2], mount[0]))
+        .filter(|(point, ..)| folder.starts_with(point))
+        .max_by_key(|(point, ..)| point.len())
+        .map_or("unknown".into(), |(_, kind, device)| {
+            format!("{kind} of {device}")
+        })
+}
+
+pub fn files(folder: &Path) -> String {
+    format!("files in {}, {}", folder.display(), file_system(folder))
 }
 
 /// Bytes handed to write calls so far; stores to mapped memory are not in it.

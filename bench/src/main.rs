@@ -22,20 +22,21 @@ mod table;
 use report::{Pace, Report};
 use std::env;
 use std::fs;
+use std::io;
 use std::path::{Path, PathBuf};
 use std::process::{self, ExitCode};
 
-/// On a memory file system, so that no disk is measured.
+/// Where files go if no folder is named: to a memory file system, so that no disk is measured.
 const MEMORY_FILES: &str = "/dev/shm";
 
 /// A folder for the stores' files, removed at the end.
 struct Scratch(PathBuf);
 
 impl Scratch {
-    fn new() -> Scratch {
-        let path = Path::new(MEMORY_FILES).join(format!("lane-bench-{}", process::id()));
-        fs::create_dir(&path).expect("a folder on the memory file system");
-        Scratch(path)
+    fn new(within: &Path) -> io::Result<Scratch> {
+        let path = within.join(format!("lane-bench-{}", process::id()));
+        fs::create_dir(&path)?;
+        Ok(Scratch(path))
     }
 }
 
@@ -45,21 +46,41 @@ impl Drop for Scratch {
     }
 }
 
-fn pace() -> Option<Pace> {
-    let words: Vec<String> = env::args().skip(1).collect();
-    match words.iter().map(String::as_str).collect::<Vec<_>>()[..] {
-        [] => Some(Pace::FULL),
-        ["--quick"] => Some(Pace::QUICK),
+/// The pace, and the folder to put the files in.
+fn asked() -> Option<(Pace, PathBuf)> {
+    let words = env::args().skip(1);
+    let (options, folders): (Vec<_>, Vec<_>) = words.partition(|word| word.starts_with('-'));
+    let pace = match &options[..] {
+        [] => Pace::FULL,
+        [quick] if quick == "--quick" => Pace::QUICK,
+        _ => return None,
+    };
+    match &folders[..] {
+        [] => Some((pace, MEMORY_FILES.into())),
+        [folder] => Some((pace, folder.into())),
         _ => None,
     }
 }
 
+fn measure(pace: Pace, folder: &Path) -> io::Result<()> {
+    let folder = folder.canonicalize()?;
+    let scratch = Scratch::new(&folder)?;
+    println!("{}", machine::describe());
+    println!("{}", machine::files(&folder));
+    Report::new(&scratch.0, pace).print();
+    Ok(())
+}
+
 fn main() -> ExitCode {
-    let Some(pace) = pace() else {
-        eprintln!("usage: bench/run [--quick]");
+    let Some((pace, folder)) = asked() else {
+        eprintln!("usage: bench/run [--quick] [FOLDER]");
         return ExitCode::from(2);
     };
-    let scratch = Scratch::new();
-    Report::new(&scratch.0, pace).print();
-    ExitCode::SUCCESS
+    match measure(pace, &folder) {
+        Ok(()) => ExitCode::SUCCESS,
+        Err(e) => {
+            eprintln!("bench/run: {}: {e}", folder.display());
+            ExitCode::from(2)
+        }
+    }
 }

@@ -6,7 +6,6 @@ use crate::clock::Clock;
 use crate::commits::{self, Plan};
 use crate::controller::{card_length, Controller, MEMORY};
 use crate::lmdb::{self, Lmdb};
-use crate::machine;
 use crate::map::Map;
 use crate::modelled::Modelled;
 use crate::proved::Proved;
@@ -89,7 +88,6 @@ impl Report {
     }
 
     pub fn print(&mut self) {
-        println!("{}", machine::describe());
         println!(
             "SQLite {}, LMDB {}; floor: memcpy of a 512-byte block, {:.1} ns",
             sqlite::version(),
