@@ -1,5 +1,5 @@
-//! A lane store as a program keeps it: its card is mapped, or each block that is written goes to a
-//! file, which is synced at each flush.
+//! A lane store as a program keeps it: its card is in memory alone, or each block that is written
+//! goes to a file too, which is synced at each flush.
 
 use crate::card::Synced;
 use crate::store::{Page, PageStore};
@@ -48,7 +48,7 @@ pub fn card_length() -> usize {
     (1 + AREA + homes as usize) * BLOCK
 }
 
-/// A formatted store, and the file that its blocks go to if the card is not one itself.
+/// A formatted store, and the file that its blocks go to, if they go to one.
 pub struct Controller {
     pub calls: Box<dyn Calls>,
     synced: Option<Synced>,
@@ -57,9 +57,10 @@ pub struct Controller {
 impl Controller {
     pub fn new(calls: Box<dyn Calls>, synced: Option<Synced>, pages: &[(u32, Page)]) -> Controller {
         let mut c = Controller { calls, synced };
-        let blocks = card_length() / BLOCK;
-        (0..blocks).for_each(|block| c.write_through(block));
-        // The flush after the start: the format is durable.
+        if let Some(file) = &mut c.synced {
+            file.put_format(c.calls.card());
+        }
+        // The flush after the start.
         c.bring_home();
         // A batch that needs no page-out: room is left for the pots that it changes.
         for batch in pages.chunks(MEMORY / BLOCK - 4) {

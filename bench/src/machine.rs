@@ -41,8 +41,17 @@ fn file_system(folder: &Path) -> String {
         })
 }
 
-pub fn files(folder: &Path) -> String {
-    format!("files in {}, {}", folder.display(), file_system(folder))
+pub fn files(folder: &Path, direct: bool) -> String {
+    let known = if direct {
+        "O_DIRECT is known"
+    } else {
+        "O_DIRECT is not known, so the library's blocks go through the page cache"
+    };
+    format!(
+        "files in {}, {}; {known}",
+        folder.display(),
+        file_system(folder)
+    )
 }
 
 /// Bytes handed to write calls so far; stores to mapped memory are not in it.

@@ -65,9 +65,10 @@ fn asked() -> Option<(Pace, PathBuf)> {
 fn measure(pace: Pace, folder: &Path) -> io::Result<()> {
     let folder = folder.canonicalize()?;
     let scratch = Scratch::new(&folder)?;
+    let direct = card::direct_known(&scratch.0);
     println!("{}", machine::describe());
-    println!("{}", machine::files(&folder));
-    Report::new(&scratch.0, pace).print();
+    println!("{}", machine::files(&folder, direct));
+    Report::new(&scratch.0, direct, pace).print();
     Ok(())
 }
 

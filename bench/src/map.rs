@@ -1,14 +1,14 @@
-//! Mapped memory: a card in a file, or in memory of its own.
+//! Memory from the system, which starts at a memory page.
 
 use std::ffi::{c_int, c_void};
-use std::fs::File;
 use std::ops::{Deref, DerefMut};
-use std::os::fd::AsRawFd;
 use std::ptr::null_mut;
 use std::slice::{from_raw_parts, from_raw_parts_mut};
 
+/// Bytes of a memory page.
+pub const ALIGNMENT: usize = 4096;
+
 const READ_WRITE: c_int = 1 | 2;
-const SHARED: c_int = 1;
 const PRIVATE_ANONYMOUS: c_int = 2 | 0x20;
 
 extern "C" {
@@ -30,17 +30,9 @@ pub struct Map {
 }
 
 impl Map {
-    pub fn of_file(file: &File, len: usize) -> Map {
-        Map::new(len, SHARED, file.as_raw_fd())
-    }
-
-    pub fn anonymous(len: usize) -> Map {
-        Map::new(len, PRIVATE_ANONYMOUS, -1)
-    }
-
-    fn new(len: usize, flags: c_int, fd: c_int) -> Map {
+    pub fn new(len: usize) -> Map {
         // SAFETY: the system chooses where, so that no memory in use is mapped over.
-        let at = unsafe { mmap(null_mut(), len, READ_WRITE, flags, fd, 0) };
+        let at = unsafe { mmap(null_mut(), len, READ_WRITE, PRIVATE_ANONYMOUS, -1, 0) };
         assert_ne!(at as isize, -1, "mmap");
         Map {
             start: at.cast(),

@@ -1,6 +1,8 @@
-//! The proved library, as a Rust program has it, over a mapped card.
+//! The proved library, as a Rust program has it, over a card that O_DIRECT can read into.
 
-use crate::controller::{Answer, Calls, AREA, FIRST, FRESH, MEMORY, UNWRITTEN, WRITTEN};
+use crate::controller::{
+    card_length, Answer, Calls, AREA, FIRST, FRESH, MEMORY, UNWRITTEN, WRITTEN,
+};
 use crate::map::Map;
 use crate::store::Page;
 use lane::{Key, Range, Refusal, Report, Store};
@@ -28,8 +30,9 @@ fn key(oid: u32) -> Key {
 }
 
 impl Proved {
-    /// Formats the card and starts.
-    pub fn new(mut card: Map) -> Proved {
+    /// Formats a card and starts.
+    pub fn new() -> Proved {
+        let mut card = Map::new(card_length());
         let memory = vec![0; MEMORY];
         lane::format(&mut card, AREA, &RANGES).expect("format");
         let store = Store::start(&card, &memory).expect("start");

@@ -1,12 +1,11 @@
 //! Which measures are made of which stores, and how they stand in the table.
 
 use crate::calls::{self, Turn};
-use crate::card::{self, Synced};
+use crate::card::Synced;
 use crate::clock::Clock;
 use crate::commits::{self, Plan};
-use crate::controller::{card_length, Controller, MEMORY};
+use crate::controller::{Controller, MEMORY};
 use crate::lmdb::{self, Lmdb};
-use crate::map::Map;
 use crate::modelled::Modelled;
 use crate::proved::Proved;
 use crate::shape::{Shape, FEW, FULL, FULL_CHANGES};
@@ -38,7 +37,7 @@ impl Pace {
 /// For each column of the table, the subject that is measured.
 type Columns = [Option<usize>; 5];
 const CALLS: Columns = [Some(0), Some(2), Some(4), Some(5), Some(6)];
-const MAPPED: Columns = [Some(0), Some(2), None, None, None];
+const IN_MEMORY: Columns = [Some(0), Some(2), None, None, None];
 const SYNCED: Columns = [Some(1), Some(3), Some(4), Some(5), Some(6)];
 /// Stores whose syncs this program makes itself.
 const COUNTED: Columns = [Some(1), Some(3), None, None, None];
@@ -48,22 +47,20 @@ const DEVICE: Columns = [Some(1), None, None, None, None];
 pub struct Report {
     clock: Clock,
     pace: Pace,
-    /// Proved and model, each mapped and synced; then the peers.
+    /// Proved and model, each in memory and synced; then the peers.
     subjects: Vec<Subject>,
     floor: f64,
 }
 
-fn subjects(folder: &Path) -> Vec<Subject> {
+fn subjects(folder: &Path, direct: bool) -> Vec<Subject> {
     let pages = first_pages();
     let at = |name: &str| folder.join(name);
-    let mapped_card = Map::of_file(&card::create(&at("mapped")), card_length());
-    let mapped = Proved::new(mapped_card);
-    let synced = Proved::new(Map::anonymous(card_length()));
-    let file = |name: &str| Some(Synced::create(&at(name)));
+    let file = |name: &str| Some(Synced::create(&at(name), direct));
+    let proved = || Box::new(Proved::new());
     let model = || Box::new(Modelled::new());
     vec![
-        Subject::new(Controller::new(Box::new(mapped), None, &pages)),
-        Subject::new(Controller::new(Box::new(synced), file("synced"), &pages)),
+        Subject::new(Controller::new(proved(), None, &pages)),
+        Subject::new(Controller::new(proved(), file("proved"), &pages)),
         Subject::new(Controller::new(model(), None, &pages)),
         Subject::new(Controller::new(model(), file("model"), &pages)),
         Subject::new(Sqlite::create(&at("wal"), Journal::Wal, &pages)),
@@ -73,8 +70,8 @@ fn subjects(folder: &Path) -> Vec<Subject> {
 }
 
 impl Report {
-    pub fn new(folder: &Path, pace: Pace) -> Report {
-        let subjects = subjects(folder);
+    pub fn new(folder: &Path, direct: bool, pace: Pace) -> Report {
+        let subjects = subjects(folder, direct);
         let clock = Clock::new();
         // A copy is short: many samples, lest all of them fall into one slow moment.
         let rounds = (0..pace.rounds).map(|_| calls::floor(&clock, 100 * pace.samples));
@@ -148,7 +145,7 @@ impl Report {
         measure: fn(&Clock, &mut Subject, Shape, usize) -> Option<f64>,
     ) {
         let n = self.pace.samples;
-        for (columns, shape) in [(few, FEW), (MAPPED, FULL), (MAPPED, FULL_CHANGES)] {
+        for (columns, shape) in [(few, FEW), (IN_MEMORY, FULL), (IN_MEMORY, FULL_CHANGES)] {
             let label = format!("{call}, entries {}", shape.name());
             self.row(columns, &label, |c, s| measure(c, s, shape, n));
         }
@@ -157,29 +154,29 @@ impl Report {
     fn calls(&mut self) {
         let n = self.pace.samples;
         table::heading("ns a call");
-        self.shape_rows(MAPPED, "key", calls::key);
+        self.shape_rows(IN_MEMORY, "key", calls::key);
         self.shape_rows(CALLS, "read at home", |c, s, shape, n| {
             Some(calls::read_home(c, s, shape, n))
         });
-        self.shape_rows(MAPPED, "read waiting", calls::read_waiting);
+        self.shape_rows(IN_MEMORY, "read waiting", calls::read_waiting);
         self.row(CALLS, "write, first of a generation", |c, s| {
             Some(calls::write(c, s, Turn::First, n))
         });
         self.row(CALLS, "write, again", |c, s| {
             Some(calls::write(c, s, Turn::Again, n))
         });
-        self.row(MAPPED, "write, fresh page (and its pot)", |c, s| {
+        self.row(IN_MEMORY, "write, fresh page (and its pot)", |c, s| {
             calls::write_fresh(c, s, n)
         });
-        self.shape_rows(MAPPED, "write waiting", calls::write_waiting);
-        self.row(MAPPED, "rescind", |c, s| calls::rescind(c, s, n));
-        self.row(MAPPED, "page-out", |c, s| calls::page_out(c, s, n));
-        self.row(MAPPED, "snapshot of 32 pages", |c, s| {
+        self.shape_rows(IN_MEMORY, "write waiting", calls::write_waiting);
+        self.row(IN_MEMORY, "rescind", |c, s| calls::rescind(c, s, n));
+        self.row(IN_MEMORY, "page-out", |c, s| calls::page_out(c, s, n));
+        self.row(IN_MEMORY, "snapshot of 32 pages", |c, s| {
             calls::snapshot(c, s, n)
         });
         for (columns, card, pages) in [
-            (MAPPED, "in memory", 251),
-            (MAPPED, "in memory", 1),
+            (IN_MEMORY, "in memory", 251),
+            (IN_MEMORY, "in memory", 1),
             (SYNCED, "read from its file", 1),
         ] {
             let label = format!("start, card {card}, entries {pages}");
@@ -192,7 +189,9 @@ impl Report {
         for pages in [1, 32, 251] {
             for kind in [Kind::P, Kind::D, Kind::T, Kind::F, Kind::H, Kind::M] {
                 let label = format!("advance {kind:?}, commit of {pages}");
-                self.row(MAPPED, &label, |c, s| calls::advance(c, s, kind, pages, n));
+                self.row(IN_MEMORY, &label, |c, s| {
+                    calls::advance(c, s, kind, pages, n)
+                });
             }
         }
     }
@@ -202,7 +201,7 @@ impl Report {
         table::heading("ns a commit");
         for plan in plans() {
             let floor = self.floor * plan.pages as f64;
-            for (columns, how) in [(MAPPED, "in memory"), (SYNCED, "synced at F")] {
+            for (columns, how) in [(IN_MEMORY, "in memory"), (SYNCED, "synced at F")] {
                 let cells = self.lowest(columns, |c, s| Some(commits::nanoseconds(c, s, plan, n)));
                 table::nanoseconds(&format!("{}, {how}", label(plan)), &cells, floor);
             }
@@ -248,7 +247,7 @@ impl Report {
 
     /// Library and model have made the same calls, so that their cards are the same.
     fn cards_agree(&mut self) {
-        for [proved, model, ..] in [MAPPED, SYNCED] {
+        for [proved, model, ..] in [IN_MEMORY, SYNCED] {
             let [a, b] = [proved, model].map(|column| {
                 let lane = self.subjects[column?].store.lane()?;
                 Some(lane.calls.card().to_vec())
