@@ -177,8 +177,12 @@ impl PageStore for Controller {
         Some(self)
     }
 
-    /// Nothing is open but the card's file, which start opens again.
-    fn stop(&mut self) {}
+    /// A card that has a file is lost, so that start must read it.
+    fn stop(&mut self) {
+        if self.synced.is_some() {
+            self.calls.card().fill(0);
+        }
+    }
 
     /// What is left of the card is what its file has.
     fn start(&mut self) {
