@@ -36,8 +36,9 @@ fn ratio(x: Option<f64>, to: Option<f64>) -> String {
 }
 
 fn line(label: &str, cells: &[String], ratios: [&str; 3]) {
-    let columns: String = cells.iter().map(|c| format!("{c:>11}")).collect();
-    let ratios = ratios.map(|r| format!("{r:>8}")).concat();
+    // A space before each, so that a slow disk's figures stay apart.
+    let columns: String = cells.iter().map(|c| format!(" {c:>10}")).collect();
+    let ratios = ratios.map(|r| format!(" {r:>7}")).concat();
     let text = format!("{label:<LABEL$}{columns}{ratios}");
     println!("{}", text.trim_end());
 }
