@@ -2,7 +2,7 @@
 -- The definitions stand on both sides of demand 2, so that a wrong layout would be wrong on both; here it is refused.
 -- Assumes nothing.
 use lib.ListN.{take, drop, length, replicate}
-use mathlib.Core.List.{List, [], _∷_, _++_}
+use mathlib.Core.List.{[], _∷_, _++_}
 use mathlib.Core.Path.{_≡_, refl}
 use Rattle.card.specs.Bytes.{pairs, u32Bytes, words, pad}
 use Rattle.card.specs.Directory.{dirBlock}

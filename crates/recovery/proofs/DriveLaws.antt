@@ -1,7 +1,7 @@
 -- A drive that puts writes down in an order of its own: what a cut leaves is a case of what the stronger drive may
 -- leave, which gives every block that was written since the last flush any bytes, but block 0.
 -- Assumes nothing.
-use Prim.Native.Nat.{ℕ, _+_, _*_, _≤_, _<_}
+use Prim.Native.Nat.{ℕ, _+_, _*_, _≤_}
 use borrow.Author.Tests.{eq-eqb, ne-eqb}
 use lib.Dec.{eqb}
 use lib.ListN.{length}
@@ -16,7 +16,7 @@ use Rattle.card.proofs.AllLaws.{all-join, all-left, all-right, all-map}
 use Rattle.card.proofs.BlockLaws.{put-length, put-same, put-other}
 use Rattle.card.specs.Block.{blockAt, putBlock}
 use Rattle.card.specs.Bytes.{All}
-use Rattle.recovery.specs.Write.{BlockWrite, Drive, putAll, seen, written, Left, stopped, put, torn, Proper, Unwritten, OldOrNew, AnyBytes, Spoilt, headerAmong}
+use Rattle.recovery.specs.Write.{BlockWrite, Drive, putAll, seen, written, Left, stopped, put, torn, Proper, Unwritten, OldOrNew, Spoilt, headerAmong}
 
 -- all put down in their order
 pub put-joined : (ws us : List BlockWrite) (c : List ℕ) → putAll (ws ++ us) c ≡ putAll us (putAll ws c)
