@@ -137,36 +137,51 @@ spoil x (w ∷ ws) = cond (eqb (w .block) 0) (spoil x ws) (record { block = w .b
 
 module _ (blocks : ℕ) (x : ℕ → List ℕ) (long : (n : ℕ) → length (x n) ≡ 512) where
   -- what holds of all of them but those of block 0 holds of the spoilt ones
-  spoil-all : (P : ℕ → Type 0) (ws : List BlockWrite) → All (λ w. w .block ≢ 0 → P (w .block)) ws → All (λ w. P (w .block)) (spoil x ws)
+  spoil-all : (P : ℕ → Type 0) (ws : List BlockWrite) → All (λ w. w .block ≢ 0 → P (w .block)) ws
+      → All (λ w. P (w .block)) (spoil x ws)
   unfolding spoil
   spoil-all P [] h = tt
-  spoil-all P (w ∷ ws) h = byTest (λ (us : List BlockWrite). All (λ w. P (w .block)) us) (eqb (w .block) 0) (λ e. spoil-all P ws (h .1)) (λ e. (h .0 (eqb-false _ _ e), spoil-all P ws (h .1)))
+  spoil-all P (w ∷ ws) h = byTest (All (λ w. P (w .block))) (eqb (w .block) 0)
+      (λ e. spoil-all P ws (h .1)) (λ e. (h .0 (eqb-false _ _ e), spoil-all P ws (h .1)))
 
   spoil-proper : (ws : List BlockWrite) → All (Proper blocks) ws → All (Proper blocks) (spoil x ws)
   unfolding spoil
   spoil-proper [] h = tt
-  spoil-proper (w ∷ ws) h = byTest (All (Proper blocks)) (eqb (w .block) 0) (λ e. spoil-proper ws (h .1)) (λ e. ((long (w .block), h .0 .1), spoil-proper ws (h .1)))
+  spoil-proper (w ∷ ws) h = byTest (All (Proper blocks)) (eqb (w .block) 0)
+      (λ e. spoil-proper ws (h .1)) (λ e. ((long (w .block), h .0 .1), spoil-proper ws (h .1)))
+
+  -- every block that was written, but block 0, has its bytes
+  abbrev Has : List ℕ → List BlockWrite → Type 0
+  Has c ws = All (λ w. 1 ≤ w .block → blockAt c (w .block) ≡ x (w .block)) ws
 
   -- a block that has its bytes keeps them, and each one gets them
-  spoil-keeps : (ws : List BlockWrite) (c : List ℕ) → length c ≡ 512 * blocks → All (Proper blocks) ws → (n : ℕ) → blockAt c n ≡ x n → blockAt (putAll (spoil x ws) c) n ≡ x n
+  spoil-keeps : (ws : List BlockWrite) (c : List ℕ) → length c ≡ 512 * blocks → All (Proper blocks) ws
+      → (n : ℕ) → blockAt c n ≡ x n → blockAt (putAll (spoil x ws) c) n ≡ x n
   unfolding spoil putAll
   spoil-keeps [] c whole p n e = e
-  spoil-keeps (w ∷ ws) c whole p n e = byTest (λ (us : List BlockWrite). blockAt (putAll us c) n ≡ x n) (eqb (w .block) 0) (λ z. spoil-keeps ws c whole (p .1) n e)
-      (λ z. spoil-keeps ws (putBlock c (w .block) (x (w .block))) (put-length c (w .block) (x (w .block)) (long (w .block)) fits ∙ whole) (p .1) n (has (ℕ-discrete n (w .block))))
+  spoil-keeps (w ∷ ws) c whole p n e = byTest (λ (us : List BlockWrite). blockAt (putAll us c) n ≡ x n) (eqb (w .block) 0)
+      (λ z. spoil-keeps ws c whole (p .1) n e)
+      (λ z. spoil-keeps ws (putBlock c (w .block) (x (w .block))) long₁ (p .1) n (has (ℕ-discrete n (w .block))))
     where
       fits : 512 * w .block + 512 ≤ length c
       fits = omega (arith, p .0 .1, whole)
+
+      long₁ : length (putBlock c (w .block) (x (w .block))) ≡ 512 * blocks
+      long₁ = put-length c (w .block) (x (w .block)) (long (w .block)) fits ∙ whole
 
       has : Dec (n ≡ w .block) → blockAt (putBlock c (w .block) (x (w .block))) n ≡ x n
       has (yes q) = rw q (put-same c (w .block) (x (w .block)) (long (w .block)) fits)
       has (no q) = put-other c (w .block) (x (w .block)) (long (w .block)) fits n q ∙ e
 
-  spoil-has : (ws : List BlockWrite) (c : List ℕ) → length c ≡ 512 * blocks → All (Proper blocks) ws → All (λ w. 1 ≤ w .block → blockAt (putAll (spoil x ws) c) (w .block) ≡ x (w .block)) ws
+  spoil-has : (ws : List BlockWrite) (c : List ℕ) → length c ≡ 512 * blocks → All (Proper blocks) ws → Has (putAll (spoil x ws) c) ws
   unfolding spoil putAll
   spoil-has [] c whole p = tt
-  spoil-has (w ∷ ws) c whole p = byTest (λ (us : List BlockWrite). All (λ u. 1 ≤ u .block → blockAt (putAll us c) (u .block) ≡ x (u .block)) (w ∷ ws)) (eqb (w .block) 0)
+  spoil-has (w ∷ ws) c whole p = byTest (λ (us : List BlockWrite). Has (putAll us c) (w ∷ ws)) (eqb (w .block) 0)
       (λ z. ((λ low. absurd (omega (arith, low, eqb-true (w .block) 0 z))), spoil-has ws c whole (p .1)))
-      (λ z. ((λ low. spoil-keeps ws c₁ whole₁ (p .1) (w .block) (put-same c (w .block) (x (w .block)) (long (w .block)) fits)), spoil-has ws c₁ whole₁ (p .1)))
+      (λ z. (
+        (λ low. spoil-keeps ws c₁ whole₁ (p .1) (w .block) (put-same c (w .block) (x (w .block)) (long (w .block)) fits)),
+        spoil-has ws c₁ whole₁ (p .1),
+      ))
     where
       fits : 512 * w .block + 512 ≤ length c
       fits = omega (arith, p .0 .1, whole)
@@ -185,14 +200,20 @@ module _ (blocks : ℕ) (x : ℕ → List ℕ) (long : (n : ℕ) → length (x n
     spoilt-left = left-spoilt spoiltCard (spoil x ws) c (all-down (spoil x ws) c) blocks whole (spoil-proper ws proper)
 
     others-stand : (n : ℕ) → Unwritten n ws → blockAt spoiltCard n ≡ blockAt c n
-    others-stand n un = spoilt-left .others n (spoil-all (λ m. n ≢ m) ws (all-map (λ w. n ≢ w .block) (λ w. w .block ≢ 0 → n ≢ w .block) ws (λ w h z. h) un))
+    others-stand n un = spoilt-left .others n
+        (spoil-all (λ m. n ≢ m) ws (all-map (λ w. n ≢ w .block) (λ w. w .block ≢ 0 → n ≢ w .block) ws (λ w h z. h) un))
 
     head-stands : blockAt spoiltCard 0 ≡ blockAt c 0
-    head-stands = spoilt-left .others 0 (spoil-all (λ m. 0 ≢ m) ws (all-map (Proper blocks) (λ w. w .block ≢ 0 → 0 ≢ w .block) ws (λ w h z e. z (sym e)) proper))
+    head-stands = spoilt-left .others 0
+        (spoil-all (λ m. 0 ≢ m) ws (all-map (Proper blocks) (λ w. w .block ≢ 0 → 0 ≢ w .block) ws (λ w h z e. z (sym e)) proper))
 
     -- every block written has the bytes that one likes, and block 0 is old
-    pub spoilt-old : Spoilt spoiltCard ws c × All (λ w. 1 ≤ w .block → blockAt spoiltCard (w .block) ≡ x (w .block)) ws × (blockAt spoiltCard 0 ≡ blockAt c 0)
-    spoilt-old = ((λ b h p. record { long = spoilt-left .long; others = others-stand; head = inl head-stands }), spoil-has ws c whole proper, head-stands)
+    pub spoilt-old : Spoilt spoiltCard ws c × Has spoiltCard ws × (blockAt spoiltCard 0 ≡ blockAt c 0)
+    spoilt-old = (
+      (λ b h p. record { long = spoilt-left .long; others = others-stand; head = inl head-stands }),
+      spoil-has ws c whole proper,
+      head-stands,
+    )
 
     -- or as any header write among them has it
     module _ (us vs : List BlockWrite) (h : BlockWrite) (e : ws ≡ us ++ (h ∷ vs)) (zero : h .block ≡ 0) where
@@ -216,9 +237,14 @@ module _ (blocks : ℕ) (x : ℕ → List ℕ) (long : (n : ℕ) → length (x n
       head-new : blockAt newCard 0 ≡ h .bytes
       head-new = put-same spoiltCard 0 (h .bytes) (h-proper .0) fits
 
-      pub spoilt-new : Spoilt newCard ws c × All (λ w. 1 ≤ w .block → blockAt newCard (w .block) ≡ x (w .block)) ws × (blockAt newCard 0 ≡ h .bytes)
+      new-long : length newCard ≡ length c
+      new-long = put-length spoiltCard 0 (h .bytes) (h-proper .0) fits ∙ spoilt-left .long
+
+      pub spoilt-new : Spoilt newCard ws c × Has newCard ws × (blockAt newCard 0 ≡ h .bytes)
       spoilt-new = (
-        (λ b k p. record { long = put-length spoiltCard 0 (h .bytes) (h-proper .0) fits ∙ spoilt-left .long; others = new-others; head = inr (us, vs, h, e, zero, head-new) }),
-        all-map (λ w. 1 ≤ w .block → blockAt spoiltCard (w .block) ≡ x (w .block)) (λ w. 1 ≤ w .block → blockAt newCard (w .block) ≡ x (w .block)) ws (λ w k low. above (w .block) low ∙ k low) (spoil-has ws c whole proper),
+        (λ b k p. record { long = new-long; others = new-others; head = inr (us, vs, h, e, zero, head-new) }),
+        all-map (λ w. 1 ≤ w .block → blockAt spoiltCard (w .block) ≡ x (w .block))
+            (λ w. 1 ≤ w .block → blockAt newCard (w .block) ≡ x (w .block)) ws (λ w k low. above (w .block) low ∙ k low)
+            (spoil-has ws c whole proper),
         head-new,
       )

@@ -82,19 +82,26 @@ module _ (blocks : ℕ) where
 -- each write of a list is one of it
 among : (ts ws : List BlockWrite) → All (λ w. (us : List BlockWrite) × (vs : List BlockWrite) × (ts ++ ws ≡ us ++ (w ∷ vs))) ws
 among ts [] = tt
-among ts (w ∷ ws) = ((ts, ws, refl), all-map _ _ ws (λ u r. (r .0, r .1, sym (append-assoc ts (w ∷ []) ws) ∙ r .2)) (among (ts ++ (w ∷ [])) ws))
+among ts (w ∷ ws) = (
+  (ts, ws, refl),
+  all-map _ _ ws (λ u r. (r .0, r .1, sym (append-assoc ts (w ∷ []) ws) ∙ r .2)) (among (ts ++ (w ∷ [])) ws),
+)
 
 pub left-spoilt : (c′ : List ℕ) (ws : List BlockWrite) (c : List ℕ) → Left c′ ws c → Spoilt c′ ws c
 left-spoilt c′ ws c l blocks whole proper = record {
   long = left-long blocks c′ ws c whole proper l ∙ sym whole;
   others = left-other blocks c′ ws c whole proper l;
-  head = left-head blocks (OldOrNew (blockAt c 0) ws) c′ ws c whole proper l (inl refl) (all-map _ _ ws (λ w r z. inr (r .0, r .1, w, r .2, z, refl)) (among [] ws));
+  head = left-head blocks (OldOrNew (blockAt c 0) ws) c′ ws c whole proper l (inl refl)
+      (all-map _ _ ws (λ w r z. inr (r .0, r .1, w, r .2, z, refl)) (among [] ws));
 }
 
 -- what holds of block 0 as it was, and of every header write, holds of it after a cut
-pub head-is : (P : List ℕ → Type 0) (old x : List ℕ) (ws : List BlockWrite) → OldOrNew old ws x → P old → All (λ w. w .block ≡ 0 → P (w .bytes)) ws → P x
+pub head-is : (P : List ℕ → Type 0) (old x : List ℕ) (ws : List BlockWrite) → OldOrNew old ws x → P old
+    → All (λ w. w .block ≡ 0 → P (w .bytes)) ws → P x
 head-is P old x ws (inl e) was new = subst P (sym e) was
-head-is P old x ws (inr (us, vs, w, e, z, is)) was new = subst P (sym is) (all-one (λ u. u .block ≡ 0 → P (u .bytes)) us vs w (subst (All (λ u. u .block ≡ 0 → P (u .bytes))) e new) .0 z)
+head-is P old x ws (inr (us, vs, w, e, z, is)) was new =
+    let q = all-one (λ u. u .block ≡ 0 → P (u .bytes)) us vs w (subst (All (λ u. u .block ≡ 0 → P (u .bytes))) e new) in
+    subst P (sym is) (q .0 z)
 
 -- ---- header writes among them
 
