@@ -9,8 +9,8 @@ pub struct Present {
     pub count: u32,
 }
 
-// Page-out's and advance's: refusal 0, and kind 1 to 5 for P, D, T, M and H with the block written, or 6 for F with block 0;
-// or the number of the question that was answered "no", kind 0 and block 0.
+// Page-out's and advance's: refusal 0, and kind 1 to 5 for P, D, T, M and H with the block written, or 6 for F with
+// block 0; or the number of the question that was answered "no", kind 0 and block 0.
 #[repr(C)]
 pub struct Report {
     pub kind: u32,

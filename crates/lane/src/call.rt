@@ -1,5 +1,6 @@
-// The calls over a lent record: each calls the by-value core, and puts the record back. Key and read change nothing, so that there is none to put back;
-// they are lent card and memory for one lifetime, as their cores are.
+// The calls over a lent record: each calls the by-value core, and puts the record back. Key and read change nothing, so
+// that there is none to put back: C gets them with a const record. They are lent card and memory for one lifetime, as
+// their cores are.
 // Key, page-out and advance answer with an enum, and with numbers for C.
 use super::answer::Present;
 use super::answer::Report;
@@ -22,8 +23,8 @@ ghost use Rattle.pages.specs.Promise.{answered, countedAs, Kept, FormatKept};
 ghost use Rattle.record.specs.Meaning.{zeroStore};
 ghost use Rattle.lane.specs.Linked.{version, number, filling, present, report, Linked};
 
-// The version of this interface: the record's form, the answers and the calls. A program compares it with the one of the
-// header that it was compiled with.
+// The version of this interface: the record's form, the answers and the calls. A program compares it with the one of
+// the header that it was compiled with.
 #[no_mangle]
 pub extern "C" fn lane_version() -> u32
     ensures { λ r. ⌜ r ≡ version ⌝ }
