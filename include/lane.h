@@ -22,8 +22,9 @@
  * a time, but that lane_key and lane_read, which take it const, may run beside each other on it,
  * each read with its own buffer.
  *
- * A call takes less than 16 KiB of stack (measured; the proofs say nothing of the stack). It
- * allocates nothing, makes no system call, and needs memcpy, memmove and memset from the program.
+ * A call takes less than 16 KiB of stack (measured; the proofs say nothing of the stack), not counting
+ * some 3 KiB that the loader may take at the first memcpy, memmove or memset of a program that binds
+ * lazily. It allocates nothing, makes no system call, and needs these three from the program.
  *
  * What the caller owes a device, or a file in its place, where the card is a copy of its blocks:
  * - It is opened with O_RDWR | O_DIRECT (and O_CLOEXEC). Through the page cache a write of one block
