@@ -47,11 +47,13 @@
 //! LANE_LIB_DIR names by its whole path, else from `target/staticlib`, where `rt staticlib lane` puts
 //! it.
 
-#![no_std]
+#![cfg_attr(not(feature = "file"), no_std)]
 #![deny(missing_docs)]
 #![deny(clippy::undocumented_unsafe_blocks)]
 
 pub mod c;
+#[cfg(feature = "file")]
+pub mod file;
 #[cfg(test)]
 mod header;
 mod raw;

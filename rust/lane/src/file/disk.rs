@@ -1,0 +1,289 @@
+use super::drive::card_length;
+use super::sys::{self, Aio, Mapping};
+use super::{length, Card, Doing, Drive, Error, Promise, Run, Unkept};
+use crate::BLOCK;
+use std::fmt;
+use std::fs::{self, File, OpenOptions, TryLockError};
+use std::io;
+use std::io::{Seek, SeekFrom};
+use std::os::unix::fs::{FileExt, FileTypeExt, MetadataExt, OpenOptionsExt};
+use std::path::Path;
+
+/// Past the page cache: x86-64 Linux's number.
+const O_DIRECT: i32 = 0o40000;
+
+/// A file or a block device, locked for this lane.
+///
+/// Blocks go past the page cache where there is O_DIRECT, so that a write brings down no neighbour.
+pub struct Disk {
+    file: File,
+    length: u64,
+    /// A device may be longer than its card, a file may not.
+    device: bool,
+    mapped: bool,
+    together: Together,
+}
+
+/// How several runs of blocks are written.
+enum Together {
+    /// By as many writes, one after the other.
+    No,
+    /// All at once, and this is not set up yet.
+    Asked,
+    Yes(Aio),
+}
+
+impl Disk {
+    /// Opens a file or a device that a card is on.
+    ///
+    /// # Errors
+    ///
+    /// [`Error::Drive`], [`Error::Busy`], [`Error::Promise`].
+    pub fn open(path: impl AsRef<Path>, promise: Promise) -> Result<Disk, Error> {
+        Disk::with(OpenOptions::new().read(true).write(true), path, promise)
+    }
+
+    /// Makes a file for a card of so many bytes, or opens a device. What is there is left as it is,
+    /// but for a file that is longer, which is cut.
+    ///
+    /// # Errors
+    ///
+    /// As [`open`](Disk::open), and [`Error::Exists`] unless it is to `replace` what is there: a
+    /// file that is not empty, a device whose first block is not zeros; [`Error::Length`] if a
+    /// device is too short.
+    pub fn create(
+        path: impl AsRef<Path>,
+        length: u64,
+        promise: Promise,
+        replace: bool,
+    ) -> Result<Disk, Error> {
+        let path = path.as_ref();
+        let mut options = OpenOptions::new();
+        options.read(true).write(true).create(true).truncate(false);
+        let mut disk = Disk::with(&mut options, path, promise)?;
+        if !replace && Doing::Read.told(disk.in_use())? {
+            return Err(Error::Exists);
+        }
+        if disk.device && disk.length < length {
+            return Err(Error::Length {
+                found: disk.length,
+                wanted: length,
+            });
+        }
+        if !disk.device {
+            Doing::Open.told(disk.make_file(path, length))?;
+        }
+        disk.length = length;
+        Ok(disk)
+    }
+
+    /// The card is read whole into a buffer, and not mapped.
+    pub fn unmapped(mut self) -> Disk {
+        self.mapped = false;
+        self
+    }
+
+    fn with(
+        options: &mut OpenOptions,
+        path: impl AsRef<Path>,
+        promise: Promise,
+    ) -> Result<Disk, Error> {
+        let (mut file, direct) = open(options, path.as_ref(), promise)?;
+        let told = Doing::Open.told(file.metadata())?;
+        let device = told.file_type().is_block_device();
+        if !device && !told.is_file() {
+            let why = io::Error::new(io::ErrorKind::InvalidInput, "no file and no block device");
+            return Doing::Open.told(Err(why));
+        }
+        lock(&file)?;
+        let below = if device { told.rdev() } else { told.dev() };
+        if promise == Promise::Asked {
+            keeps(&file, device, below)?;
+        }
+        Ok(Disk {
+            length: Doing::Open.told(file.seek(SeekFrom::End(0)))?,
+            file,
+            device,
+            mapped: true,
+            together: if direct && major(below) != 0 {
+                Together::Asked
+            } else {
+                Together::No
+            },
+        })
+    }
+
+    /// Is there something that a format would destroy?
+    fn in_use(&mut self) -> io::Result<bool> {
+        if !self.device {
+            return Ok(self.length > 0);
+        }
+        let mut block = Card::zeros(BLOCK);
+        self.read(0, &mut block)?;
+        Ok(block.iter().any(|byte| *byte != 0))
+    }
+
+    /// A file has its name for good before it has bytes.
+    fn make_file(&mut self, path: &Path, length: u64) -> io::Result<()> {
+        if self.length > length {
+            self.file.set_len(length)?;
+        }
+        let folder = match path.parent() {
+            Some(folder) if folder != Path::new("") => folder,
+            _ => Path::new("."),
+        };
+        File::open(folder)?.sync_all()
+    }
+
+    /// A file must be as long as its header says; of a device the card's blocks are used.
+    fn trim(&mut self, header: &[u8]) -> Result<(), Error> {
+        match length::told_by(header) {
+            Some(wanted) if self.device && wanted <= self.length => self.length = wanted,
+            Some(wanted) if wanted != self.length => {
+                return Err(Error::Length {
+                    found: self.length,
+                    wanted,
+                });
+            }
+            _ => {}
+        }
+        Ok(())
+    }
+
+    /// The private mapping, if there is to be one and the system has it.
+    fn mapping(&self, length: usize) -> Option<Card> {
+        if !self.mapped || length == 0 {
+            return None;
+        }
+        Mapping::new(&self.file, length).ok().map(Card::mapped)
+    }
+
+    fn set_up(&mut self) -> Option<(&mut Aio, &File)> {
+        if matches!(self.together, Together::Asked) {
+            self.together = Aio::new().map_or(Together::No, Together::Yes);
+        }
+        match &mut self.together {
+            Together::Yes(aio) => Some((aio, &self.file)),
+            _ => None,
+        }
+    }
+}
+
+impl Drive for Disk {
+    fn length(&self) -> u64 {
+        self.length
+    }
+
+    fn read(&mut self, at: u64, buffer: &mut [u8]) -> io::Result<()> {
+        self.file.read_exact_at(buffer, at)
+    }
+
+    fn write(&mut self, at: u64, bytes: &[u8]) -> io::Result<()> {
+        match self.file.write_at(bytes, at)? {
+            written if written == bytes.len() => Ok(()),
+            _ => Err(io::ErrorKind::WriteZero.into()),
+        }
+    }
+
+    fn flush(&mut self) -> io::Result<()> {
+        self.file.sync_data()
+    }
+
+    fn write_runs(&mut self, card: &[u8], runs: &[Run]) -> io::Result<()> {
+        let mut rest = runs;
+        if runs.len() > 1 {
+            if let Some((aio, file)) = self.set_up() {
+                rest = &runs[aio.write(file, card, runs)?..];
+            }
+        }
+        rest.iter()
+            .try_for_each(|run| self.write(run.at(), &card[run.bytes()]))
+    }
+
+    /// A private mapping where the system has it, so that a start reads the header, the trailer and
+    /// the directory alone; else a copy.
+    fn card(&mut self) -> Result<Card, Error> {
+        if self.device {
+            let mut header = Card::zeros(BLOCK);
+            Doing::Read.told(self.read(0, &mut header))?;
+            self.trim(&header)?;
+        }
+        let length = card_length(self.length)?;
+        let card = match self.mapping(length) {
+            Some(card) => card,
+            None => {
+                let mut card = Card::zeros(length);
+                Doing::Read.told(self.read(0, &mut card))?;
+                card
+            }
+        };
+        self.trim(&card)?;
+        Ok(card)
+    }
+}
+
+impl fmt::Debug for Disk {
+    fn fmt(&self, f: &mut fmt::Formatter<'_>) -> fmt::Result {
+        write!(f, "Disk({:?}, {} bytes)", self.file, self.length)
+    }
+}
+
+/// The file, and whether its blocks go past the page cache.
+fn open(options: &mut OpenOptions, path: &Path, promise: Promise) -> Result<(File, bool), Error> {
+    match options.custom_flags(O_DIRECT).open(path) {
+        Err(why) if why.kind() == io::ErrorKind::InvalidInput => match promise {
+            Promise::Kill => {
+                let file = Doing::Open.told(options.custom_flags(0).open(path))?;
+                Ok((file, false))
+            }
+            _ => Err(Unkept::Direct.into()),
+        },
+        file => Ok((Doing::Open.told(file)?, true)),
+    }
+}
+
+fn lock(file: &File) -> Result<(), Error> {
+    match file.try_lock() {
+        Ok(()) => Ok(()),
+        Err(TryLockError::WouldBlock) => Err(Error::Busy),
+        Err(TryLockError::Error(why)) => Doing::Open.told(Err(why)),
+    }
+}
+
+/// Asks whether a block of 512 bytes goes down by itself.
+fn keeps(file: &File, device: bool, below: u64) -> Result<(), Error> {
+    /// ext2 to ext4, xfs, vfat and exfat write in place.
+    const IN_PLACE: [i64; 4] = [0xEF53, 0x5846_5342, 0x4D44, 0x2011_BAB0];
+    if !device {
+        let kind = Doing::Open.told(sys::file_system(file))?;
+        if !IN_PLACE.contains(&kind) {
+            return Err(Unkept::FileSystem(kind).into());
+        }
+    }
+    let sector = |name| sector(below, name).ok_or(Unkept::Device);
+    let (logical, physical) = (
+        sector("logical_block_size")?,
+        sector("physical_block_size")?,
+    );
+    if logical != BLOCK as u32 || physical != BLOCK as u32 {
+        return Err(Unkept::Sector { logical, physical }.into());
+    }
+    Ok(())
+}
+
+/// A number of the device's queue; a partition has that of the device it is part of.
+fn sector(device: u64, name: &str) -> Option<u32> {
+    let folder = format!("/sys/dev/block/{}:{}", major(device), minor(device));
+    let told = fs::read_to_string(format!("{folder}/queue/{name}"))
+        .or_else(|_| fs::read_to_string(format!("{folder}/../queue/{name}")));
+    told.ok()?.trim().parse().ok()
+}
+
+/// Above 0 for a block device.
+fn major(device: u64) -> u64 {
+    (device >> 8) & 0xfff | (device >> 32) & !0xfff
+}
+
+fn minor(device: u64) -> u64 {
+    device & 0xff | (device >> 12) & 0xffff_ff00
+}
