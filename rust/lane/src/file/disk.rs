@@ -20,6 +20,8 @@ pub struct Disk {
     length: u64,
     /// A device may be longer than its card, a file may not.
     device: bool,
+    /// Is the file a new one?
+    made: bool,
     mapped: bool,
     together: Together,
 }
@@ -40,55 +42,7 @@ impl Disk {
     ///
     /// [`Error::Drive`], [`Error::Busy`], [`Error::Promise`].
     pub fn open(path: impl AsRef<Path>, promise: Promise) -> Result<Disk, Error> {
-        Disk::with(OpenOptions::new().read(true).write(true), path, promise)
-    }
-
-    /// Makes a file for a card of so many bytes, or opens a device. What is there is left as it is,
-    /// but for a file that is longer, which is cut.
-    ///
-    /// # Errors
-    ///
-    /// As [`open`](Disk::open), and [`Error::Exists`] unless it is to `replace` what is there: a
-    /// file that is not empty, a device whose first block is not zeros; [`Error::Length`] if a
-    /// device is too short.
-    pub fn create(
-        path: impl AsRef<Path>,
-        length: u64,
-        promise: Promise,
-        replace: bool,
-    ) -> Result<Disk, Error> {
-        let path = path.as_ref();
-        let mut options = OpenOptions::new();
-        options.read(true).write(true).create(true).truncate(false);
-        let mut disk = Disk::with(&mut options, path, promise)?;
-        if !replace && Doing::Read.told(disk.in_use())? {
-            return Err(Error::Exists);
-        }
-        if disk.device && disk.length < length {
-            return Err(Error::Length {
-                found: disk.length,
-                wanted: length,
-            });
-        }
-        if !disk.device {
-            Doing::Open.told(disk.make_file(path, length))?;
-        }
-        disk.length = length;
-        Ok(disk)
-    }
-
-    /// The card is read whole into a buffer, and not mapped.
-    pub fn unmapped(mut self) -> Disk {
-        self.mapped = false;
-        self
-    }
-
-    fn with(
-        options: &mut OpenOptions,
-        path: impl AsRef<Path>,
-        promise: Promise,
-    ) -> Result<Disk, Error> {
-        let (mut file, direct) = open(options, path.as_ref(), promise)?;
+        let (mut file, direct) = open(path.as_ref(), promise)?;
         let told = Doing::Open.told(file.metadata())?;
         let device = told.file_type().is_block_device();
         if !device && !told.is_file() {
@@ -104,6 +58,7 @@ impl Disk {
             length: Doing::Open.told(file.seek(SeekFrom::End(0)))?,
             file,
             device,
+            made: false,
             mapped: true,
             together: if direct && major(below) != 0 {
                 Together::Asked
@@ -111,6 +66,64 @@ impl Disk {
                 Together::No
             },
         })
+    }
+
+    /// Makes a file for a card of so many bytes, or opens a device. What is there is left as it is,
+    /// but for a file that is longer, which is cut.
+    ///
+    /// # Errors
+    ///
+    /// As [`open`](Disk::open), and [`Error::Exists`] unless it is to `replace` what is there: a
+    /// file that is not empty, a device whose first block is not zeros; [`Error::Length`] if a
+    /// device is too short. The file that it has made is then removed.
+    pub fn create(
+        path: impl AsRef<Path>,
+        length: u64,
+        promise: Promise,
+        replace: bool,
+    ) -> Result<Disk, Error> {
+        let path = path.as_ref();
+        let made = Doing::Open.told(make(path))?;
+        let opened = Disk::open(path, promise).and_then(|mut disk| {
+            disk.made = made;
+            disk.fit(path, length, replace).map(|()| disk)
+        });
+        opened.inspect_err(|why| {
+            if made && !matches!(why, Error::Busy) {
+                remove(path);
+            }
+        })
+    }
+
+    /// Removes the file, if `create` has made it.
+    pub(super) fn discard(self, path: &Path) {
+        if self.made {
+            remove(path);
+        }
+    }
+
+    /// The card is read whole into a buffer, and not mapped.
+    pub fn unmapped(mut self) -> Disk {
+        self.mapped = false;
+        self
+    }
+
+    /// Makes it fit for a card of so many bytes.
+    fn fit(&mut self, path: &Path, length: u64, replace: bool) -> Result<(), Error> {
+        if !replace && Doing::Read.told(self.in_use())? {
+            return Err(Error::Exists);
+        }
+        if self.device && self.length < length {
+            return Err(Error::Length {
+                found: self.length,
+                wanted: length,
+            });
+        }
+        if !self.device {
+            Doing::Open.told(self.name_for_good(path, length))?;
+        }
+        self.length = length;
+        Ok(())
     }
 
     /// Is there something that a format would destroy?
@@ -124,7 +137,7 @@ impl Disk {
     }
 
     /// A file has its name for good before it has bytes.
-    fn make_file(&mut self, path: &Path, length: u64) -> io::Result<()> {
+    fn name_for_good(&mut self, path: &Path, length: u64) -> io::Result<()> {
         if self.length > length {
             self.file.set_len(length)?;
         }
@@ -179,10 +192,7 @@ impl Drive for Disk {
     }
 
     fn write(&mut self, at: u64, bytes: &[u8]) -> io::Result<()> {
-        match self.file.write_at(bytes, at)? {
-            written if written == bytes.len() => Ok(()),
-            _ => Err(io::ErrorKind::WriteZero.into()),
-        }
+        self.file.write_all_at(bytes, at)
     }
 
     fn flush(&mut self) -> io::Result<()> {
@@ -213,7 +223,8 @@ impl Drive for Disk {
             Some(card) => card,
             None => {
                 let mut card = Card::zeros(length);
-                Doing::Read.told(self.read(0, &mut card))?;
+                let whole = length - length % BLOCK;
+                Doing::Read.told(self.read(0, &mut card[..whole]))?;
                 card
             }
         };
@@ -229,17 +240,30 @@ impl fmt::Debug for Disk {
 }
 
 /// The file, and whether its blocks go past the page cache.
-fn open(options: &mut OpenOptions, path: &Path, promise: Promise) -> Result<(File, bool), Error> {
-    match options.custom_flags(O_DIRECT).open(path) {
+fn open(path: &Path, promise: Promise) -> Result<(File, bool), Error> {
+    let mut options = OpenOptions::new();
+    options.read(true).write(true);
+    match options.clone().custom_flags(O_DIRECT).open(path) {
         Err(why) if why.kind() == io::ErrorKind::InvalidInput => match promise {
-            Promise::Kill => {
-                let file = Doing::Open.told(options.custom_flags(0).open(path))?;
-                Ok((file, false))
-            }
+            Promise::Kill => Ok((Doing::Open.told(options.open(path))?, false)),
             _ => Err(Unkept::Direct.into()),
         },
         file => Ok((Doing::Open.told(file)?, true)),
     }
+}
+
+/// Makes an empty file, and tells whether there was none.
+fn make(path: &Path) -> io::Result<bool> {
+    let made = OpenOptions::new().write(true).create_new(true).open(path);
+    match made {
+        Err(why) if why.kind() == io::ErrorKind::AlreadyExists => Ok(false),
+        made => made.map(|_| true),
+    }
+}
+
+/// For a file that was of no use. What is told is why, not whether this succeeds.
+fn remove(path: &Path) {
+    let _ = fs::remove_file(path);
 }
 
 fn lock(file: &File) -> Result<(), Error> {

@@ -1,6 +1,5 @@
 use super::{length, Card, Disk, Doing, Drive, Error, Lane};
 use crate::{Range, BLOCK};
-use std::fs;
 use std::path::Path;
 
 /// What a write or a rescind does where there is no room for it.
@@ -120,15 +119,11 @@ impl Options {
         let path = path.as_ref();
         let length = length::of(area, ranges);
         let card = formatted(length, area, ranges)?;
-        let new = fs::symlink_metadata(path).is_err();
-        let made = Disk::create(path, length, self.promise, self.replace)
-            .and_then(|mut disk| put(&mut disk, &card).map(|()| disk));
-        let disk = made.inspect_err(|_| {
-            if new {
-                // The failure that is told is the first one.
-                let _ = fs::remove_file(path);
-            }
-        })?;
+        let mut disk = Disk::create(path, length, self.promise, self.replace)?;
+        if let Err(why) = put(&mut disk, &card) {
+            disk.discard(path);
+            return Err(why);
+        }
         self.open_disk(disk)
     }
 
