@@ -1,16 +1,14 @@
 use super::drive::card_length;
-use super::sys::{self, Aio, Mapping};
-use super::{length, Card, Doing, Drive, Error, Promise, Run, Unkept};
+use super::opened::{Below, Opened};
+use super::sys::{Aio, Mapping};
+use super::{length, Card, Doing, Drive, Error, Promise, Run};
 use crate::BLOCK;
 use std::fmt;
-use std::fs::{self, File, OpenOptions, TryLockError};
+use std::fs::{self, File, OpenOptions};
 use std::io;
 use std::io::{Seek, SeekFrom};
-use std::os::unix::fs::{FileExt, FileTypeExt, MetadataExt, OpenOptionsExt};
+use std::os::unix::fs::FileExt;
 use std::path::Path;
-
-/// Past the page cache: x86-64 Linux's number.
-const O_DIRECT: i32 = 0o40000;
 
 /// A file or a block device, locked for this lane.
 ///
@@ -42,28 +40,20 @@ impl Disk {
     ///
     /// [`Error::Drive`], [`Error::Busy`], [`Error::Promise`].
     pub fn open(path: impl AsRef<Path>, promise: Promise) -> Result<Disk, Error> {
-        let (mut file, direct) = open(path.as_ref(), promise)?;
-        let told = Doing::Open.told(file.metadata())?;
-        let device = told.file_type().is_block_device();
-        if !device && !told.is_file() {
-            let why = io::Error::new(io::ErrorKind::InvalidInput, "no file and no block device");
-            return Doing::Open.told(Err(why));
-        }
-        lock(&file)?;
-        let below = if device { told.rdev() } else { told.dev() };
-        if promise == Promise::Asked {
-            keeps(&file, device, below)?;
-        }
+        let Opened {
+            mut file,
+            device,
+            below,
+        } = Opened::new(path.as_ref(), promise)?;
         Ok(Disk {
             length: Doing::Open.told(file.seek(SeekFrom::End(0)))?,
             file,
             device,
             made: false,
             mapped: true,
-            together: if direct && major(below) != 0 {
-                Together::Asked
-            } else {
-                Together::No
+            together: match below {
+                Below::Device => Together::Asked,
+                Below::Cache => Together::No,
             },
         })
     }
@@ -239,19 +229,6 @@ impl fmt::Debug for Disk {
     }
 }
 
-/// The file, and whether its blocks go past the page cache.
-fn open(path: &Path, promise: Promise) -> Result<(File, bool), Error> {
-    let mut options = OpenOptions::new();
-    options.read(true).write(true);
-    match options.clone().custom_flags(O_DIRECT).open(path) {
-        Err(why) if why.kind() == io::ErrorKind::InvalidInput => match promise {
-            Promise::Kill => Ok((Doing::Open.told(options.open(path))?, false)),
-            _ => Err(Unkept::Direct.into()),
-        },
-        file => Ok((Doing::Open.told(file)?, true)),
-    }
-}
-
 /// Makes an empty file, and tells whether there was none.
 fn make(path: &Path) -> io::Result<bool> {
     let made = OpenOptions::new().write(true).create_new(true).open(path);
@@ -264,50 +241,4 @@ fn make(path: &Path) -> io::Result<bool> {
 /// For a file that was of no use. What is told is why, not whether this succeeds.
 fn remove(path: &Path) {
     let _ = fs::remove_file(path);
-}
-
-fn lock(file: &File) -> Result<(), Error> {
-    match file.try_lock() {
-        Ok(()) => Ok(()),
-        Err(TryLockError::WouldBlock) => Err(Error::Busy),
-        Err(TryLockError::Error(why)) => Doing::Open.told(Err(why)),
-    }
-}
-
-/// Asks whether a block of 512 bytes goes down by itself.
-fn keeps(file: &File, device: bool, below: u64) -> Result<(), Error> {
-    /// ext2 to ext4, xfs, vfat and exfat write in place.
-    const IN_PLACE: [i64; 4] = [0xEF53, 0x5846_5342, 0x4D44, 0x2011_BAB0];
-    if !device {
-        let kind = Doing::Open.told(sys::file_system(file))?;
-        if !IN_PLACE.contains(&kind) {
-            return Err(Unkept::FileSystem(kind).into());
-        }
-    }
-    let sector = |name| sector(below, name).ok_or(Unkept::Device);
-    let (logical, physical) = (
-        sector("logical_block_size")?,
-        sector("physical_block_size")?,
-    );
-    if logical != BLOCK as u32 || physical != BLOCK as u32 {
-        return Err(Unkept::Sector { logical, physical }.into());
-    }
-    Ok(())
-}
-
-/// A number of the device's queue; a partition has that of the device it is part of.
-fn sector(device: u64, name: &str) -> Option<u32> {
-    let folder = format!("/sys/dev/block/{}:{}", major(device), minor(device));
-    let told = fs::read_to_string(format!("{folder}/queue/{name}"))
-        .or_else(|_| fs::read_to_string(format!("{folder}/../queue/{name}")));
-    told.ok()?.trim().parse().ok()
-}
-
-/// Above 0 for a block device.
-fn major(device: u64) -> u64 {
-    (device >> 8) & 0xfff | (device >> 32) & !0xfff
-}
-
-fn minor(device: u64) -> u64 {
-    device & 0xff | (device >> 12) & 0xffff_ff00
 }

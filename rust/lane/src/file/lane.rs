@@ -9,7 +9,7 @@ use std::vec::Vec;
 /// A card that is open: its drive, its bytes, memory and the store, in one.
 ///
 /// Pages are read and written by key; [`commit`](Lane::commit) makes all that was written safe. A
-/// refused call changes nothing.
+/// refused call changes nothing that a read shows.
 ///
 /// Once a write or a flush of the drive has failed, the card in memory is ahead of the drive for
 /// good, and no later flush makes that certain: every call is refused ([`Error::Stopped`]) until the
@@ -221,6 +221,8 @@ impl<D: Drive> Lane<D> {
         Ok(())
     }
 
+    /// 13 comes only while a snapshot is pending, and an empty generation has room for any call: so
+    /// neither comes twice.
     fn make_room(&mut self, refusal: Refusal) -> Result<(), Error> {
         match (refusal, self.room) {
             (Refusal::MemoryFull, Room::Make | Room::Commit) => self.page_out(),

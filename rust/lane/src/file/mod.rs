@@ -49,6 +49,7 @@ mod error;
 mod gathered;
 mod lane;
 mod length;
+mod opened;
 mod options;
 mod recorder;
 mod sys;

@@ -1,0 +1,156 @@
+//! Opening a file or a device: past the page cache, locked, and asked what it promises.
+
+use super::sys;
+use super::{Doing, Error, Promise, Unkept};
+use std::fs::{self, File, Metadata, OpenOptions, TryLockError};
+use std::io;
+use std::os::unix::fs::{FileTypeExt, MetadataExt, OpenOptionsExt};
+use std::path::Path;
+
+/// Past the page cache: x86-64 Linux's number.
+const O_DIRECT: i32 = 0o40000;
+/// Bytes that must go down as one.
+const SECTOR: u32 = 512;
+/// File systems that write in place: ext2 to ext4, xfs, vfat, exfat.
+const IN_PLACE: [i64; 4] = [0xEF53, 0x5846_5342, 0x4D44, 0x2011_BAB0];
+
+/// A file or a block device that is open and locked.
+pub struct Opened {
+    pub file: File,
+    pub device: bool,
+    pub below: Below,
+}
+
+/// Where written blocks go.
+pub enum Below {
+    /// To a block device, past the page cache.
+    Device,
+    /// To the page cache, or to a file system that has nothing else.
+    Cache,
+}
+
+impl Opened {
+    /// # Errors
+    ///
+    /// [`Error::Drive`], [`Error::Busy`], [`Error::Promise`].
+    pub fn new(path: &Path, promise: Promise) -> Result<Opened, Error> {
+        let (file, unkept) = match (direct(path), promise) {
+            (Err(Error::Promise(unkept)), Promise::Kill) => {
+                (Doing::Open.told(file(path, 0))?, Some(unkept))
+            }
+            (file, _) => (file?, None),
+        };
+        lock(&file)?;
+        let told = Doing::Open.told(file.metadata())?;
+        let sectors = Sectors::of(&told);
+        if promise == Promise::Asked {
+            keeps(&file, &told, sectors)?;
+        }
+        Ok(Opened {
+            file,
+            device: told.file_type().is_block_device(),
+            below: match (unkept, sectors) {
+                (None, Some(_)) => Below::Device,
+                _ => Below::Cache,
+            },
+        })
+    }
+}
+
+/// Past the page cache, where the device takes single blocks.
+fn direct(path: &Path) -> Result<File, Error> {
+    let file = match file(path, O_DIRECT) {
+        Err(why) if why.kind() == io::ErrorKind::InvalidInput => return Err(Unkept::Direct.into()),
+        file => Doing::Open.told(file)?,
+    };
+    match Sectors::of(&Doing::Open.told(file.metadata())?) {
+        Some(sectors) if sectors.logical != SECTOR => Err(sectors.unkept().into()),
+        _ => Ok(file),
+    }
+}
+
+fn file(path: &Path, flags: i32) -> io::Result<File> {
+    let mut options = OpenOptions::new();
+    let options = options.read(true).write(true).custom_flags(flags);
+    let file = options.open(path)?;
+    let told = file.metadata()?;
+    if !told.is_file() && !told.file_type().is_block_device() {
+        let why = "neither a file nor a block device";
+        return Err(io::Error::new(io::ErrorKind::Unsupported, why));
+    }
+    Ok(file)
+}
+
+fn lock(file: &File) -> Result<(), Error> {
+    match file.try_lock() {
+        Ok(()) => Ok(()),
+        Err(TryLockError::WouldBlock) => Err(Error::Busy),
+        Err(TryLockError::Error(why)) => Doing::Open.told(Err(why)),
+    }
+}
+
+/// Asks whether a block goes down by itself, and stays where it is.
+fn keeps(file: &File, told: &Metadata, sectors: Option<Sectors>) -> Result<(), Error> {
+    if told.is_file() {
+        let kind = Doing::Open.told(sys::file_system(file))?;
+        if !IN_PLACE.contains(&kind) {
+            return Err(Unkept::FileSystem(kind).into());
+        }
+    }
+    let sectors = sectors.ok_or(Unkept::Device)?;
+    if sectors.logical != SECTOR || sectors.physical != SECTOR {
+        return Err(sectors.unkept().into());
+    }
+    Ok(())
+}
+
+/// Bytes of a device's sectors.
+#[derive(Clone, Copy)]
+struct Sectors {
+    logical: u32,
+    physical: u32,
+}
+
+impl Sectors {
+    /// Those of the device that a file is on, or that it is, if there is one.
+    fn of(told: &Metadata) -> Option<Sectors> {
+        let device = if told.is_file() {
+            told.dev()
+        } else {
+            told.rdev()
+        };
+        let (major, minor) = (major(device), minor(device));
+        // Memory and network file systems have no device, and no number of one.
+        if major == 0 {
+            return None;
+        }
+        // A partition has the queue of the device that it is part of.
+        let folder = format!("/sys/dev/block/{major}:{minor}");
+        let whole = Sectors::of_queue(&format!("{folder}/queue"));
+        whole.or_else(|| Sectors::of_queue(&format!("{folder}/../queue")))
+    }
+
+    fn of_queue(queue: &str) -> Option<Sectors> {
+        let number = |name| {
+            let told = fs::read_to_string(format!("{queue}/{name}")).ok()?;
+            told.trim().parse().ok()
+        };
+        Some(Sectors {
+            logical: number("logical_block_size")?,
+            physical: number("physical_block_size")?,
+        })
+    }
+
+    fn unkept(self) -> Unkept {
+        let Sectors { logical, physical } = self;
+        Unkept::Sector { logical, physical }
+    }
+}
+
+fn major(device: u64) -> u64 {
+    (device >> 8) & 0xfff | (device >> 32) & !0xfff
+}
+
+fn minor(device: u64) -> u64 {
+    device & 0xff | (device >> 12) & 0xffff_ff00
+}
