@@ -34,51 +34,37 @@ impl Opened {
     ///
     /// [`Error::Drive`], [`Error::Busy`], [`Error::Promise`].
     pub fn new(path: &Path, promise: Promise) -> Result<Opened, Error> {
-        let (file, unkept) = match (direct(path), promise) {
-            (Err(Error::Promise(unkept)), Promise::Kill) => {
-                (Doing::Open.told(file(path, 0))?, Some(unkept))
+        let (found, direct) = match (direct(path), promise) {
+            (Err(Error::Promise(_)), Promise::Kill) => {
+                (Doing::Open.told(Found::new(path, 0))?, false)
             }
-            (file, _) => (file?, None),
+            (found, _) => (found?, true),
         };
-        lock(&file)?;
-        let told = Doing::Open.told(file.metadata())?;
-        let sectors = Sectors::of(&told);
+        lock(&found.file)?;
         if promise == Promise::Asked {
-            keeps(&file, &told, sectors)?;
+            found.keeps()?;
         }
         Ok(Opened {
-            file,
-            device: told.file_type().is_block_device(),
-            below: match (unkept, sectors) {
-                (None, Some(_)) => Below::Device,
+            device: !found.told.is_file(),
+            below: match found.sectors {
+                Some(_) if direct => Below::Device,
                 _ => Below::Cache,
             },
+            file: found.file,
         })
     }
 }
 
 /// Past the page cache, where the device takes single blocks.
-fn direct(path: &Path) -> Result<File, Error> {
-    let file = match file(path, O_DIRECT) {
+fn direct(path: &Path) -> Result<Found, Error> {
+    let found = match Found::new(path, O_DIRECT) {
         Err(why) if why.kind() == io::ErrorKind::InvalidInput => return Err(Unkept::Direct.into()),
-        file => Doing::Open.told(file)?,
+        found => Doing::Open.told(found)?,
     };
-    match Sectors::of(&Doing::Open.told(file.metadata())?) {
+    match found.sectors {
         Some(sectors) if sectors.logical != SECTOR => Err(sectors.unkept().into()),
-        _ => Ok(file),
+        _ => Ok(found),
     }
-}
-
-fn file(path: &Path, flags: i32) -> io::Result<File> {
-    let mut options = OpenOptions::new();
-    let options = options.read(true).write(true).custom_flags(flags);
-    let file = options.open(path)?;
-    let told = file.metadata()?;
-    if !told.is_file() && !told.file_type().is_block_device() {
-        let why = "neither a file nor a block device";
-        return Err(io::Error::new(io::ErrorKind::Unsupported, why));
-    }
-    Ok(file)
 }
 
 fn lock(file: &File) -> Result<(), Error> {
@@ -89,19 +75,44 @@ fn lock(file: &File) -> Result<(), Error> {
     }
 }
 
-/// Asks whether a block goes down by itself, and stays where it is.
-fn keeps(file: &File, told: &Metadata, sectors: Option<Sectors>) -> Result<(), Error> {
-    if told.is_file() {
-        let kind = Doing::Open.told(sys::file_system(file))?;
-        if !IN_PLACE.contains(&kind) {
-            return Err(Unkept::FileSystem(kind).into());
+/// What a path names, and the sectors of the device below, if there is one.
+struct Found {
+    file: File,
+    told: Metadata,
+    sectors: Option<Sectors>,
+}
+
+impl Found {
+    fn new(path: &Path, flags: i32) -> io::Result<Found> {
+        let mut options = OpenOptions::new();
+        let options = options.read(true).write(true).custom_flags(flags);
+        let file = options.open(path)?;
+        let told = file.metadata()?;
+        if !told.is_file() && !told.file_type().is_block_device() {
+            let why = "neither a file nor a block device";
+            return Err(io::Error::new(io::ErrorKind::Unsupported, why));
         }
+        Ok(Found {
+            sectors: Sectors::of(&told),
+            file,
+            told,
+        })
     }
-    let sectors = sectors.ok_or(Unkept::Device)?;
-    if sectors.logical != SECTOR || sectors.physical != SECTOR {
-        return Err(sectors.unkept().into());
+
+    /// Asks whether a block goes down by itself, and stays where it is.
+    fn keeps(&self) -> Result<(), Error> {
+        if self.told.is_file() {
+            let kind = Doing::Open.told(sys::file_system(&self.file))?;
+            if !IN_PLACE.contains(&kind) {
+                return Err(Unkept::FileSystem(kind).into());
+            }
+        }
+        let sectors = self.sectors.ok_or(Unkept::Device)?;
+        if sectors.logical != SECTOR || sectors.physical != SECTOR {
+            return Err(sectors.unkept().into());
+        }
+        Ok(())
     }
-    Ok(())
 }
 
 /// Bytes of a device's sectors.
