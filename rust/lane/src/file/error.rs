@@ -52,7 +52,7 @@ pub enum Doing {
 #[derive(Clone, Copy, Debug, Eq, PartialEq)]
 #[non_exhaustive]
 pub enum Unkept {
-    /// The file system knows no O_DIRECT: a write would bring down its neighbours too.
+    /// There is no O_DIRECT for single blocks: a write would bring down its neighbours too.
     Direct,
     /// No block device is known below, so its sectors cannot be asked for.
     Device,
@@ -131,7 +131,7 @@ impl fmt::Display for Doing {
 impl fmt::Display for Unkept {
     fn fmt(&self, f: &mut fmt::Formatter<'_>) -> fmt::Result {
         match self {
-            Unkept::Direct => f.write_str("no O_DIRECT here"),
+            Unkept::Direct => f.write_str("no O_DIRECT for blocks of 512 bytes here"),
             Unkept::Device => f.write_str("no block device is known below"),
             Unkept::Sector { logical, physical } => write!(
                 f,

@@ -46,24 +46,25 @@ impl Opened {
         }
         Ok(Opened {
             device: !found.told.is_file(),
-            below: match found.sectors {
-                Some(_) if direct => Below::Device,
-                _ => Below::Cache,
+            below: if direct && major(found.below()) != 0 {
+                Below::Device
+            } else {
+                Below::Cache
             },
             file: found.file,
         })
     }
 }
 
-/// Past the page cache, where the device takes single blocks.
+/// Past the page cache, where single blocks can be written there.
 fn direct(path: &Path) -> Result<Found, Error> {
     let found = match Found::new(path, O_DIRECT) {
         Err(why) if why.kind() == io::ErrorKind::InvalidInput => return Err(Unkept::Direct.into()),
         found => Doing::Open.told(found)?,
     };
-    match found.sectors {
-        Some(sectors) if sectors.logical != SECTOR => Err(sectors.unkept().into()),
-        _ => Ok(found),
+    match sys::direct_length(&found.file) {
+        None | Some(1..=SECTOR) => Ok(found),
+        Some(_) => Err(Unkept::Direct.into()),
     }
 }
 
@@ -75,11 +76,10 @@ fn lock(file: &File) -> Result<(), Error> {
     }
 }
 
-/// What a path names, and the sectors of the device below, if there is one.
+/// What a path names.
 struct Found {
     file: File,
     told: Metadata,
-    sectors: Option<Sectors>,
 }
 
 impl Found {
@@ -92,11 +92,17 @@ impl Found {
             let why = "neither a file nor a block device";
             return Err(io::Error::new(io::ErrorKind::Unsupported, why));
         }
-        Ok(Found {
-            sectors: Sectors::of(&told),
-            file,
-            told,
-        })
+        Ok(Found { file, told })
+    }
+
+    /// The number of the device that its blocks are on. Memory and network file systems have none,
+    /// and a major number of 0.
+    fn below(&self) -> u64 {
+        if self.told.is_file() {
+            self.told.dev()
+        } else {
+            self.told.rdev()
+        }
     }
 
     /// Asks whether a block goes down by itself, and stays where it is.
@@ -107,36 +113,26 @@ impl Found {
                 return Err(Unkept::FileSystem(kind).into());
             }
         }
-        let sectors = self.sectors.ok_or(Unkept::Device)?;
-        if sectors.logical != SECTOR || sectors.physical != SECTOR {
-            return Err(sectors.unkept().into());
+        match Sectors::of(self.below()).ok_or(Unkept::Device)? {
+            Sectors {
+                logical: SECTOR,
+                physical: SECTOR,
+            } => Ok(()),
+            Sectors { logical, physical } => Err(Unkept::Sector { logical, physical }.into()),
         }
-        Ok(())
     }
 }
 
 /// Bytes of a device's sectors.
-#[derive(Clone, Copy)]
 struct Sectors {
     logical: u32,
     physical: u32,
 }
 
 impl Sectors {
-    /// Those of the device that a file is on, or that it is, if there is one.
-    fn of(told: &Metadata) -> Option<Sectors> {
-        let device = if told.is_file() {
-            told.dev()
-        } else {
-            told.rdev()
-        };
-        let (major, minor) = (major(device), minor(device));
-        // Memory and network file systems have no device, and no number of one.
-        if major == 0 {
-            return None;
-        }
-        // A partition has the queue of the device that it is part of.
-        let folder = format!("/sys/dev/block/{major}:{minor}");
+    /// Those that the device's queue tells; a partition has the queue of the device it is part of.
+    fn of(device: u64) -> Option<Sectors> {
+        let folder = format!("/sys/dev/block/{}:{}", major(device), minor(device));
         let whole = Sectors::of_queue(&format!("{folder}/queue"));
         whole.or_else(|| Sectors::of_queue(&format!("{folder}/../queue")))
     }
@@ -150,11 +146,6 @@ impl Sectors {
             logical: number("logical_block_size")?,
             physical: number("physical_block_size")?,
         })
-    }
-
-    fn unkept(self) -> Unkept {
-        let Sectors { logical, physical } = self;
-        Unkept::Sector { logical, physical }
     }
 }
 

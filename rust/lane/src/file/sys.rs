@@ -2,7 +2,7 @@
 //! unsafe code of the layer is here.
 
 use super::Run;
-use std::ffi::{c_int, c_long, c_ulong, c_void};
+use std::ffi::{c_char, c_int, c_long, c_uint, c_ulong, c_void};
 use std::fs::File;
 use std::io;
 use std::os::fd::AsRawFd;
@@ -15,6 +15,8 @@ const PROT_READ_WRITE: c_int = 3;
 const MAP_PRIVATE: c_int = 2;
 const MADV_RANDOM: c_int = 1;
 const POSIX_FADV_DONTNEED: c_int = 4;
+const AT_EMPTY_PATH: c_int = 0x1000;
+const STATX_DIOALIGN: c_uint = 0x2000;
 const SYS_IO_SETUP: c_long = 206;
 const SYS_IO_DESTROY: c_long = 207;
 const SYS_IO_GETEVENTS: c_long = 208;
@@ -34,6 +36,13 @@ extern "C" {
     fn madvise(at: *mut c_void, length: usize, advice: c_int) -> c_int;
     fn posix_fadvise(file: c_int, from: i64, length: i64, advice: c_int) -> c_int;
     fn fstatfs(file: c_int, told: *mut Statfs) -> c_int;
+    fn statx(
+        folder: c_int,
+        path: *const c_char,
+        flags: c_int,
+        asked: c_uint,
+        told: *mut Statx,
+    ) -> c_int;
     fn syscall(number: c_long, ...) -> c_long;
 }
 
@@ -55,6 +64,39 @@ pub fn file_system(file: &File) -> io::Result<i64> {
         0 => Ok(told.kind),
         _ => Err(io::Error::last_os_error()),
     }
+}
+
+/// What statx tells, of which two numbers are read: what it has told of what was asked, and the
+/// length that writes with O_DIRECT are made of.
+#[repr(C)]
+struct Statx {
+    known: u32,
+    before: [u32; 38],
+    direct: u32,
+    rest: [u32; 24],
+}
+
+/// The least length of a write past the page cache, 0 if the file takes none; none if the system
+/// does not tell.
+pub fn direct_length(file: &File) -> Option<u32> {
+    let mut told = Statx {
+        known: 0,
+        before: [0; 38],
+        direct: 0,
+        rest: [0; 24],
+    };
+    // SAFETY: an empty path that ends, and a struct with the length and alignment of the system's.
+    let answer = unsafe {
+        let path = c"".as_ptr();
+        statx(
+            file.as_raw_fd(),
+            path,
+            AT_EMPTY_PATH,
+            STATX_DIOALIGN,
+            &mut told,
+        )
+    };
+    (answer == 0 && told.known & STATX_DIOALIGN != 0).then_some(told.direct)
 }
 
 /// A private mapping of a file: what is written to it stays in this process.
