@@ -1,5 +1,8 @@
 //! The lane page store, a proved library, with an interface that is safe to call.
 //!
+//! For a card in a file or on a block device [`file`] has a store that is ready to use. What follows
+//! is below it: the proved calls themselves, for who has no file system.
+//!
 //! A controller formats a card once. After every power-up it starts, and then lends the card and
 //! its memory to each call of the [`Store`]. A snapshot marks all pages and counts; it is kept,
 //! whatever cut comes, once [`Store::advance`] has written the header and asked for the flush after
@@ -42,8 +45,8 @@
 //! Stores are independent of each other, and may go from thread to thread. Calls that take `&self`
 //! may run beside each other on one store.
 //!
-//! The crate needs neither `std` nor an allocator: a [`Store`] holds its record in place, of
-//! [`Store::RECORD`] bytes. The build takes `liblane.a` from the folder that the environment variable
+//! Without its default feature `file` the crate needs neither `std` nor an allocator: a [`Store`]
+//! holds its record in place, of [`Store::RECORD`] bytes. The build takes `liblane.a` from the folder that the environment variable
 //! LANE_LIB_DIR names by its whole path, else from `target/staticlib`, where `rt staticlib lane` puts
 //! it.
 
