@@ -1,7 +1,7 @@
 //! What `lane help` and `lane COMMAND --help` say.
 
 pub const ALL: &str = "\
-lane: makes cards, checks, shows, exports and imports them
+lane: makes cards, checks, shows, exports, imports and draws them
 
 usage: lane COMMAND IMAGE ...
 
@@ -11,6 +11,7 @@ usage: lane COMMAND IMAGE ...
   page IMAGE OID    show one page
   export IMAGE      write all pages and counts as text
   import IMAGE FILE make a card of an export
+  map IMAGE         draw the card and its ring as SVG
 
   help [COMMAND], COMMAND --help, --version
 
@@ -107,3 +108,12 @@ often as its count says, and keys to the old card's pages are keys to those of t
   --progress          show how far it is, also where standard error is no terminal",
     promise!()
 );
+
+pub const MAP: &str = "\
+usage: lane map IMAGE [--out FILE.svg]
+
+Draws the card as SVG: the ring of the checkpoint area with the committed generation and where the
+next one begins, and the home ranges, a row for each pot and its pages, by where their bytes are.
+
+  --out FILE.svg      write to FILE.svg, and not to standard output
+";

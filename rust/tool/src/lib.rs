@@ -16,6 +16,7 @@ mod hex;
 pub mod image;
 mod import;
 mod making;
+mod map;
 mod output;
 mod page;
 mod progress;
@@ -36,7 +37,7 @@ struct Command {
     run: fn(&Arguments) -> Result<(), Failure>,
 }
 
-const COMMANDS: [Command; 6] = [
+const COMMANDS: [Command; 7] = [
     Command {
         name: "format",
         help: help::FORMAT,
@@ -101,6 +102,15 @@ const COMMANDS: [Command; 6] = [
             ],
         },
         run: import::run,
+    },
+    Command {
+        name: "map",
+        help: help::MAP,
+        shape: Shape {
+            words: &["IMAGE"],
+            options: &[Known::Value("--out")],
+        },
+        run: map::run,
     },
 ];
 

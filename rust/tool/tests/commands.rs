@@ -238,7 +238,7 @@ fn an_oid_in_no_range_is_status_1() {
 }
 
 #[test]
-fn a_refused_card_is_neither_shown_nor_exported() {
+fn a_refused_card_is_neither_shown_nor_exported_nor_drawn() {
     let folder = Folder::new();
     let mut card = whole_image();
     put_number(&mut card, 4, 5);
@@ -247,6 +247,7 @@ fn a_refused_card_is_neither_shown_nor_exported() {
     for (command, more) in [
         ("page", vec!["100"]),
         ("export", vec!["--out", out.to_str().unwrap()]),
+        ("map", vec!["--out", out.to_str().unwrap()]),
     ] {
         let answer = on(command, &image, &more);
         assert_eq!(answer.out, "");
@@ -262,14 +263,14 @@ fn a_refused_card_is_neither_shown_nor_exported() {
 fn what_the_system_refuses_is_status_3() {
     let folder = Folder::new();
     let none = folder.path("none");
-    for command in ["check", "dump", "export"] {
+    for command in ["check", "dump", "export", "map"] {
         on(command, &none, &[]).failed(3, "none: No such file");
         on(command, &folder.path(""), &[]).failed(3, "neither a file nor a block device");
     }
     on("page", &none, &["1"]).failed(3, "none: No such file");
     let image = folder.file("card", busy());
     on("export", &image, &["--out", "/dev/full"]).failed(3, "/dev/full: No space left");
-    on("export", &image, &["--out", "/nowhere/text"]).failed(3, "/nowhere/text: No such file");
+    on("map", &image, &["--out", "/nowhere/map"]).failed(3, "/nowhere/map: No such file");
 }
 
 #[test]
@@ -278,7 +279,9 @@ fn the_card_is_never_the_output() {
     let image = folder.file("card", busy());
     let link = folder.path("link");
     fs::hard_link(&image, &link).unwrap();
-    on("export", &image, &["--out", link.to_str().unwrap()]).failed(2, "are one file");
+    for command in ["export", "map"] {
+        on(command, &image, &["--out", link.to_str().unwrap()]).failed(2, "are one file");
+    }
     assert_eq!(fs::read(&image).unwrap(), busy());
 }
 
@@ -327,7 +330,7 @@ fn every_command_has_help() {
     for status in ["0  done", "1  refused", "2  usage", "3  the system"] {
         assert!(all.contains(status), "{all}");
     }
-    for name in ["format", "check", "dump", "page", "export", "import"] {
+    for name in ["format", "check", "dump", "page", "export", "import", "map"] {
         assert!(all.contains(&format!("\n  {name} IMAGE")), "{all}");
         let help = lane(&[name, "--help"]).done();
         assert!(help.starts_with(&format!("usage: lane {name} IMAGE")));
