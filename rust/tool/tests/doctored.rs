@@ -139,6 +139,7 @@ fn wide() -> Vec<u8> {
     maker.card
 }
 
+/// The smallest card and the largest area; one range and eight; no commit, and one of a pot alone.
 fn bases() -> Vec<Base> {
     let empty = Maker::new(9, &[range(0, 4), range(u32::MAX - 2, 3)]);
     let eight: Vec<_> = (0..8).map(|i| range(1000 * i, 1 + i)).collect();
@@ -146,16 +147,11 @@ fn bases() -> Vec<Base> {
     ranges.write(7000, &[1]).commit();
     let mut pot = Maker::new(8, &[range(5, 2)]);
     pot.rescind(5).commit();
-    [
-        whole_image(),
-        busy(),
-        wide(),
-        empty.card,
-        ranges.card,
-        pot.card,
-    ]
-    .map(Base::of)
-    .into()
+    let mut large = Maker::new(512, &[range(3, 1)]);
+    large.write(3, &[1]).commit();
+    let made = [empty, ranges, pot, large].map(|maker| maker.card);
+    let cards = [whole_image(), busy(), wide()].into_iter().chain(made);
+    cards.map(Base::of).collect()
 }
 
 /// The library's number, 0 if it accepts the card.
