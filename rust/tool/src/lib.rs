@@ -1,4 +1,4 @@
-//! The tool `lane`, for people who run lanes and for technicians: [`help`] has its commands.
+//! The tool `lane`, for people who run lanes and for technicians: `lane help` has its commands.
 
 #![forbid(unsafe_code)]
 
