@@ -1,6 +1,6 @@
 //! The lane page store, a proved library, with an interface that is safe to call.
 //!
-//! For a card in a file or on a block device [`file`] has a store that is ready to use. What follows
+//! For a card in a file or on a block device [`mod@file`] has a store that is ready to use. What follows
 //! is below it: the proved calls themselves, for who has no file system.
 //!
 //! A controller formats a card once. After every power-up it starts, and then lends the card and
