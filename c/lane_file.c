@@ -498,7 +498,7 @@ static bool is_empty(const disk *d)
 static int sync_folder(const char *path)
 {
     const char *slash = strrchr(path, '/');
-    char *folder = slash == NULL ? strdup(".") : strndup(path, slash == path ? 1 : (size_t)(slash - path));
+    char *folder = strndup(slash == NULL ? "." : path, slash == NULL || slash == path ? 1 : (size_t)(slash - path));
     if (folder == NULL)
         return LANE_FILE_SYSTEM;
     int fd = open_file(folder, O_RDONLY | O_DIRECTORY);
