@@ -116,6 +116,21 @@ static void keys(const char *path)
     lane_file_close(lane);
 }
 
+/* A commit takes what is pending with it, and what came after. */
+static void commit_over_pending(const char *path)
+{
+    lane_file *lane = created(path, AREA, kill_safe());
+    IS(fill(lane, FIRST, 1), LANE_DONE);
+    IS(lane_file_snapshot(lane), LANE_DONE);
+    IS(fill(lane, FIRST + 1, 2), LANE_DONE);
+    IS(lane_file_commit(lane), LANE_DONE);
+    lane_file_close(lane);
+    lane = opened(path, kill_safe());
+    IS(shown(lane, FIRST), 1);
+    IS(shown(lane, FIRST + 1), 2);
+    lane_file_close(lane);
+}
+
 /* P, D, T, F, H, F of one page and its pot, then M twice, each step by itself. */
 static void steps(const char *path)
 {
@@ -372,6 +387,7 @@ int main(int argc, char **argv)
     a_day(path, 0);
     a_day(path, 1);
     keys(path);
+    commit_over_pending(path);
     steps(path);
     rooms(path);
     one_at_a_time(path);

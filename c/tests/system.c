@@ -27,7 +27,8 @@ enum { CALLS(NUMBER) CALLS_END };
 /* Which call fails, at which of its turns, and how. */
 static struct {
     int call, turn, turns;
-    int part; /* a read or a write is done in part, in place of failing */
+    int part;    /* a read or a write is done in part, in place of failing */
+    int noticed; /* an answer told of it */
 } told;
 
 static const uint32_t RANGE[2] = {FIRST, PAGES};
@@ -213,7 +214,22 @@ static int clear(int answer)
         return 1;
     HOLDS(answer >= LANE_FILE_SYSTEM && answer <= LANE_FILE_READ);
     HOLDS(error == EPROTO || (told.part && error == EIO));
+    told.noticed = 1;
     return 0;
+}
+
+/* Whether the layer may go on without the call: 1 it may not, 0 it must, -1 it depends on what was asked. */
+static int needed(int call)
+{
+    switch (call) {
+    case CALL_mmap:
+    case CALL_madvise:
+    case CALL_posix_fadvise: return 0;
+    case CALL_open:
+    case CALL_pread:
+    case CALL_syscall: return -1; /* a sector that is not known, or no writes at once, is no failure */
+    default: return 1;
+    }
 }
 
 static void use(lane_file *lane, int *safe)
@@ -261,9 +277,18 @@ static int every_turn(const char *path, int call, int part, int unmapped)
         told.part = part;
         session(path, unmapped);
         IS(open_files(), before);
+        HOLDS(told.turns < turn || needed(call) < 0 || needed(call) == told.noticed);
     } while (told.turns >= turn);
-    HOLDS(turn > 1 || call == CALL_syscall); /* which is for a device alone */
     return turn - 1;
+}
+
+/* How often a session comes to a call, where none fails. */
+static int turns_of(const char *path, int call, int unmapped)
+{
+    memset(&told, 0, sizeof told);
+    told.call = call;
+    session(path, unmapped);
+    return told.turns;
 }
 
 /* Six pages apart, written straight through the disk's drive. */
@@ -340,6 +365,9 @@ int main(int argc, char **argv)
     HOLDS(argc == 2);
     snprintf(path, sizeof path, "%s/card", argv[1]);
     int turns = 0;
+    IS(turns_of(path, CALL_fsync, 0), 4); /* the folder, and the file at each flush of the create */
+    IS(turns_of(path, CALL_mmap, 0), 2);
+    IS(turns_of(path, CALL_mmap, 1), 0);
     for (int call = 0; call < CALLS_END; call++)
         turns += every_turn(path, call, 0, 0);
     turns += every_turn(path, CALL_pwrite, 1, 0);
