@@ -470,8 +470,12 @@ static size_t told(const uint8_t *header)
     size_t blocks = 1 + (size_t)area;
     if (layout != 1 || area < LANE_AREA_MIN || area > LANE_AREA_MAX || ranges < 1 || ranges > LANE_RANGES_MAX)
         return 0;
-    for (uint32_t i = 0; i < ranges; i++)
-        blocks += LANE_RANGE_BLOCKS(number(header + 24 + 8 * i));
+    for (uint32_t i = 0; i < ranges; i++) {
+        uint32_t pages = number(header + 24 + 8 * i);
+        if (pages < 1)
+            return 0;
+        blocks += LANE_RANGE_BLOCKS(pages);
+    }
     return blocks <= LANE_CARD_MAX ? blocks : 0;
 }
 

@@ -317,6 +317,8 @@ static void no_card(const char *path)
     IS(open_answer(path, kill_safe()), LANE_GEOMETRY);
     doctor(path, whole, 1, AREA, LANE_RANGES_MAX + 1, PAGES);
     IS(open_answer(path, kill_safe()), LANE_GEOMETRY);
+    doctor(path, whole, 1, AREA, 1, 0);
+    IS(open_answer(path, kill_safe()), LANE_GEOMETRY);
     doctor(path, whole, 1, AREA, 1, PAGES + 1);
     IS(open_answer(path, kill_safe()), LANE_FILE_LENGTH);
     doctor(path, 100, 1, AREA, 1, PAGES);

@@ -291,13 +291,13 @@ static int turns_of(const char *path, int call, int unmapped)
     return told.turns;
 }
 
-/* Six pages apart, written straight through the disk's drive. */
-enum { RUNS = 6 };
+/* Blocks apart, more than go at once, written straight through the disk's drive. */
+enum { RUNS = 300, APART = 2 * RUNS * LANE_BLOCK };
 
 static int write_apart(const lane_drive *drive, uint8_t *card, uint8_t byte)
 {
     lane_run runs[RUNS];
-    memset(card, byte, BLOCKS * LANE_BLOCK);
+    memset(card, byte, APART);
     for (size_t i = 0; i < RUNS; i++) {
         runs[i].first = 2 * i;
         runs[i].blocks = 1;
@@ -307,7 +307,7 @@ static int write_apart(const lane_drive *drive, uint8_t *card, uint8_t byte)
 
 static void written_apart(const lane_drive *drive, uint8_t *card, uint8_t byte)
 {
-    IS(drive->read(drive->self, 0, card, BLOCKS * LANE_BLOCK), 0);
+    IS(drive->read(drive->self, 0, card, APART), 0);
     for (size_t i = 0; i < RUNS; i++)
         HOLDS(card[2 * i * LANE_BLOCK] == byte && card[(2 * i + 1) * LANE_BLOCK] != byte);
 }
@@ -332,13 +332,13 @@ static void writes_at_once(const char *path)
     lane_drive drive;
     void *card;
     unlink(path);
-    IS(lane_disk_create(&drive, path, BLOCKS * LANE_BLOCK, &options), LANE_DONE);
-    HOLDS(posix_memalign(&card, 4096, BLOCKS * LANE_BLOCK) == 0);
+    IS(lane_disk_create(&drive, path, APART, &options), LANE_DONE);
+    HOLDS(posix_memalign(&card, 4096, APART) == 0);
     if (drive.write_runs == NULL) {
         printf("system: writes at once are not tried: no device below\n");
     } else {
         spoil(&drive, card, &several.spoil, 0, 0);
-        IS(several.submits, 1);
+        IS(several.submits, 2);
         written_apart(&drive, card, 9);
         spoil(&drive, card, &several.one_by_one, 1, 0);
         IS(several.submits, RUNS);
