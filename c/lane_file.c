@@ -905,8 +905,8 @@ static void drop(lane_file *lane)
     if (lane->mapped)
         lane->drive.unmap(lane->drive.self, lane->card, lane->card_len);
     else
-        free(lane->card);
-    free(lane);
+        let_go(lane->card);
+    let_go(lane);
     errno = error;
 }
 
