@@ -1,5 +1,7 @@
 /* The ready layer: lane_file.h over the library's calls. First the system's calls, then the disk, then the lane. */
-#define _GNU_SOURCE /* O_DIRECT, flock, madvise */
+#ifndef _GNU_SOURCE
+#define _GNU_SOURCE /* O_DIRECT, flock, madvise, statx */
+#endif
 #include "lane_file.h"
 
 #include <errno.h>
@@ -24,7 +26,10 @@
 #define O_DIRECT 0 /* there is none: a promise that asks for it is refused */
 #endif
 
-enum { ALIGNMENT = 4096 };
+enum {
+    ALIGNMENT = 4096,
+    AT_A_TIME = 1 << 20 /* bytes in one read or write of a create */
+};
 
 /* An answer with its reason; a drive of the program's own may tell none that errno.h has. */
 static int because(int answer, int error)
@@ -51,10 +56,10 @@ const char *lane_file_text(int answer)
         return lane_refusal_text((uint32_t)answer);
     switch (answer) {
     case LANE_FILE_STOPPED: return "a write or a flush failed before: the lane is to be closed and opened anew";
-    case LANE_FILE_BUSY: return "another lane has it open";
-    case LANE_FILE_EXISTS: return "there is a file that is not empty, or a device whose first block is not zeros";
+    case LANE_FILE_BUSY: return "another lane has it open, or the device is in use";
+    case LANE_FILE_EXISTS: return "there is a file that is not empty, or a device whose blocks are not zeros";
     case LANE_FILE_LENGTH: return "it is not as long as the card that it holds or is to hold";
-    case LANE_FILE_PROMISE_DIRECT: return "no promise at a power cut: there is no O_DIRECT here";
+    case LANE_FILE_PROMISE_DIRECT: return "no promise at a power cut: no O_DIRECT for blocks of 512 bytes here";
     case LANE_FILE_PROMISE_SECTOR: return "no promise at a power cut: a sector of the device is not 512 bytes";
     case LANE_FILE_PROMISE_DEVICE: return "no promise at a power cut: the block device below is not known";
     case LANE_FILE_PROMISE_FILE_SYSTEM:
@@ -108,13 +113,20 @@ static int read_all(int fd, uint8_t *buffer, size_t n, uint64_t at)
     return 0;
 }
 
-/* A short write is a failure: what is left of it is never tried again. */
-static int write_all(int fd, const void *bytes, size_t n, uint64_t at)
+static ssize_t write_part(int fd, const uint8_t *bytes, size_t n, uint64_t at)
 {
-    ssize_t put = pwrite(fd, bytes, n, (off_t)at);
-    if (put < 0)
-        return reason();
-    return (size_t)put == n ? 0 : EIO;
+    return pwrite(fd, bytes, n, (off_t)at);
+}
+
+/* A short write is a failure; the rest of it is asked for to learn why. */
+static int write_all(int fd, const uint8_t *bytes, size_t n, uint64_t at)
+{
+    ssize_t put = write_part(fd, bytes, n, at);
+    if (put >= 0 && (size_t)put == n)
+        return 0;
+    if (put >= 0)
+        put = write_part(fd, bytes + put, n - (size_t)put, at + (uint64_t)put);
+    return put < 0 ? reason() : EIO;
 }
 
 static int flush_data(int fd)
@@ -174,9 +186,10 @@ static long aio_call(long number, uintptr_t a, uintptr_t b, uintptr_t c, uintptr
     return syscall(number, a, b, c, d, NULL);
 }
 
+/* False where the system has no such. */
 static bool aio_begin(disk *d)
 {
-    return aio_call(SYS_io_setup, AT_ONCE, (uintptr_t)&d->aio, 0, 0) == 0;
+    return d->aio != 0 || aio_call(SYS_io_setup, AT_ONCE, (uintptr_t)&d->aio, 0, 0) == 0;
 }
 
 /* Waits for all that is under way. Keeps errno. */
@@ -257,14 +270,30 @@ static int aio_write(disk *d, const uint8_t *card, const lane_run *runs, size_t 
 static int disk_write_runs(void *self, const uint8_t *card, const lane_run *runs, size_t runs_len)
 {
     disk *d = self;
+    size_t most = runs_len > 1 && aio_begin(d) ? AT_ONCE : 1;
     int error = 0;
-    if (runs_len == 1) {
-        size_t at = runs->first * LANE_BLOCK;
-        return write_all(d->fd, card + at, runs->blocks * LANE_BLOCK, at);
+    for (size_t i = 0; i < runs_len && error == 0; i += most) {
+        size_t at = runs[i].first * LANE_BLOCK;
+        if (most == 1)
+            error = write_all(d->fd, card + at, runs[i].blocks * LANE_BLOCK, at);
+        else
+            error = aio_write(d, card, runs + i, runs_len - i < most ? runs_len - i : most);
     }
-    for (size_t i = 0; i < runs_len && error == 0; i += AT_ONCE)
-        error = aio_write(d, card, runs + i, runs_len - i < AT_ONCE ? runs_len - i : AT_ONCE);
     return error;
+}
+
+/* Do blocks of 512 bytes go past the page cache here? Where the system does not tell, an open that was not refused
+   says so. */
+static bool takes_blocks(int fd)
+{
+#ifdef STATX_DIOALIGN
+    struct statx found;
+    if (statx(fd, "", AT_EMPTY_PATH, STATX_DIOALIGN, &found) == 0 && (found.stx_mask & STATX_DIOALIGN) != 0)
+        return found.stx_dio_offset_align >= 1 && found.stx_dio_offset_align <= LANE_BLOCK;
+#else
+    (void)fd;
+#endif
+    return true;
 }
 
 /* A sector of a block device, "logical" or "physical"; a partition has those of its disk. 0: not known. */
@@ -306,14 +335,9 @@ static int ask_device(const disk *d)
 }
 
 /* Without a device below, or through the page cache, the system makes writes one by one in any case. */
-static bool takes_several(disk *d)
+static void add_several(lane_drive *drive, const disk *d)
 {
-    return d->direct && sector(d->below, "logical") != 0 && aio_begin(d);
-}
-
-static void add_several(lane_drive *drive, disk *d)
-{
-    if (takes_several(d))
+    if (d->direct && major(d->below) != 0)
         drive->write_runs = disk_write_runs;
 }
 
@@ -325,7 +349,13 @@ static int ask_device(const disk *d)
     return LANE_FILE_PROMISE_DEVICE;
 }
 
-static void add_several(lane_drive *drive, disk *d)
+static bool takes_blocks(int fd)
+{
+    (void)fd;
+    return true;
+}
+
+static void add_several(lane_drive *drive, const disk *d)
 {
     (void)drive;
     (void)d;
@@ -394,20 +424,35 @@ static void disk_close(void *self)
     let_go(d);
 }
 
+/* A block device is opened for this program alone: one that is mounted, or part of another, is refused. */
+static int alone(const char *path)
+{
+    struct stat found;
+    return stat(path, &found) == 0 && S_ISBLK(found.st_mode) ? O_EXCL : 0;
+}
+
+/* What the system says of an open that failed. */
+static int not_opened(void)
+{
+    return errno == EBUSY ? LANE_FILE_BUSY : LANE_FILE_SYSTEM;
+}
+
 /* Where there is no O_DIRECT, open says EINVAL. */
 static int open_direct(disk *d, const char *path, enum lane_file_promise promise)
 {
-    d->direct = O_DIRECT != 0;
-    d->fd = open_file(path, O_RDWR | O_DIRECT);
-    if (d->fd >= 0)
+    const int flags = O_RDWR | alone(path);
+    d->fd = open_file(path, flags | O_DIRECT);
+    if (d->fd < 0 && errno != EINVAL)
+        return not_opened();
+    d->direct = O_DIRECT != 0 && d->fd >= 0 && takes_blocks(d->fd);
+    if (d->direct)
         return LANE_DONE;
-    if (errno != EINVAL)
-        return LANE_FILE_SYSTEM;
     if (promise != LANE_PROMISE_KILL)
         return LANE_FILE_PROMISE_DIRECT;
-    d->direct = false;
-    d->fd = open_file(path, O_RDWR);
-    return d->fd >= 0 ? LANE_DONE : LANE_FILE_SYSTEM;
+    if (d->fd >= 0)
+        close_file(d->fd);
+    d->fd = open_file(path, flags);
+    return d->fd >= 0 ? LANE_DONE : not_opened();
 }
 
 static int lock(const disk *d)
@@ -493,10 +538,26 @@ static int measure(disk *d)
     return LANE_DONE;
 }
 
-static bool is_empty(const disk *d)
+static bool are_zeros(const uint8_t *bytes, size_t n)
 {
-    const uint8_t zeros[LANE_BLOCK] = {0};
-    return d->file ? d->length == 0 : memcmp(d->block, zeros, LANE_BLOCK) == 0;
+    return n == 0 || (bytes[0] == 0 && memcmp(bytes, bytes + 1, n - 1) == 0);
+}
+
+/* Of a device all blocks are looked at that a card of so many bytes would take. */
+static int ask_empty(const disk *d, uint64_t bytes)
+{
+    if (d->file)
+        return d->length == 0 ? LANE_DONE : LANE_FILE_EXISTS;
+    uint8_t *part = aligned(AT_A_TIME);
+    int error = part == NULL ? ENOMEM : 0, answer = LANE_DONE;
+    for (uint64_t at = 0; at < bytes && error == 0 && answer == LANE_DONE; at += AT_A_TIME) {
+        size_t n = bytes - at < AT_A_TIME ? (size_t)(bytes - at) : AT_A_TIME;
+        error = read_all(d->fd, part, n, at);
+        if (error == 0 && !are_zeros(part, n))
+            answer = LANE_FILE_EXISTS;
+    }
+    let_go(part);
+    return error == 0 ? answer : because(LANE_FILE_READ, error);
 }
 
 static int sync_folder(const char *path)
@@ -518,10 +579,11 @@ static int sync_folder(const char *path)
 static int make_place(disk *d, const char *path, uint64_t bytes, bool replace)
 {
     enum { CREATE_FLUSHES = 3 };
-    if (!replace && !is_empty(d))
-        return LANE_FILE_EXISTS;
     if (!d->file && d->length < bytes)
         return LANE_FILE_LENGTH;
+    int answer = replace ? LANE_DONE : ask_empty(d, bytes);
+    if (answer != LANE_DONE)
+        return answer;
     d->length = bytes;
     if (!d->file)
         return LANE_DONE;
@@ -620,10 +682,8 @@ int lane_disk_create(lane_drive *drive, const char *path, uint64_t bytes, const 
 
 /* The lane. */
 
-enum {
-    GATHERED_MAX = LANE_AREA_MAX + LANE_AREA_MAX / 2 + 1, /* the area, the home blocks of a commit, the header */
-    AT_A_TIME = 1 << 20                                   /* bytes in one write of a create */
-};
+/* The area, the home blocks of a commit, the header. */
+enum { GATHERED_MAX = LANE_AREA_MAX + LANE_AREA_MAX / 2 + 1 };
 
 struct lane_file {
     lane_drive drive;

@@ -83,10 +83,10 @@ extern "C" {
 /* The answers of this layer. */
 enum lane_file_answer {
     LANE_FILE_STOPPED = -1,             /* a write or a flush failed before: close the lane and open it anew */
-    LANE_FILE_BUSY = -2,                /* another lane, here or in another program, has it open */
+    LANE_FILE_BUSY = -2,                /* another lane, here or elsewhere, has it open; a device that is mounted */
     LANE_FILE_EXISTS = -3,              /* create, and something is there: name another, or `replace` it */
     LANE_FILE_LENGTH = -4,              /* not as long as its header says: cut short, or not all of a copy */
-    LANE_FILE_PROMISE_DIRECT = -5,      /* no O_DIRECT here; only LANE_PROMISE_KILL can be had */
+    LANE_FILE_PROMISE_DIRECT = -5,      /* no O_DIRECT for single blocks; only LANE_PROMISE_KILL can be had */
     LANE_FILE_PROMISE_SECTOR = -6,      /* a sector is not 512 bytes: another device, or vouch for this one */
     LANE_FILE_PROMISE_DEVICE = -7,      /* the block device below cannot be told: vouch for it, or another */
     LANE_FILE_PROMISE_FILE_SYSTEM = -8, /* not known to write in place: vouch for it, or another */
@@ -143,9 +143,8 @@ int lane_file_open(lane_file **lane, const char *path, const lane_file_options *
 /* Makes an empty card, by lane_format's `area` and `ranges` (first OID and number of pages of each range in turn,
    so ranges_len is twice their number), writes all of it in three steps with a flush after each, and opens it.
    The file is made exactly as long as the card, and its folder is synced. Without `replace` it must not be there
-   or be empty, and a device's first block must be zeros; OF A DEVICE NO OTHER BLOCK IS LOOKED AT, and some file
-   systems leave the first one zeros. Refused LANE_CARD 3 or LANE_GEOMETRY 5, nothing is touched. A file that was
-   newly made is removed if create fails.
+   or be empty, and a device's blocks that the card takes must be zeros. Refused LANE_CARD 3 or LANE_GEOMETRY 5,
+   nothing is touched. A file that was newly made is removed if create fails.
    Answers LANE_MEMORY 1, LANE_CARD 3, LANE_GEOMETRY 5, or LANE_FILE_VERSION, _SYSTEM, _BUSY, _PROMISE_..,
    _EXISTS, _LENGTH (the device is shorter than the card), _READ, _WRITE, _FLUSH. */
 int lane_file_create(lane_file **lane, const char *path, size_t area, const uint32_t *ranges, size_t ranges_len,

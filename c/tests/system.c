@@ -28,6 +28,7 @@ enum { CALLS(NUMBER) CALLS_END };
 static struct {
     int call, turn, turns;
     int part;    /* a read or a write is done in part, in place of failing */
+    int rest;    /* the rest of a write in part, which fails */
     int noticed; /* an answer told of it */
 } told;
 
@@ -106,8 +107,15 @@ ssize_t told_pread(int fd, void *buffer, size_t n, off_t at)
 
 ssize_t told_pwrite(int fd, const void *bytes, size_t n, off_t at)
 {
-    if (fails(CALL_pwrite))
+    if (fails(CALL_pwrite)) {
+        told.rest = told.part;
         return told.part ? (ssize_t)(n / 2) : -1;
+    }
+    if (told.rest) {
+        told.rest = 0;
+        errno = EPROTO;
+        return -1;
+    }
     return pwrite(fd, bytes, n, at);
 }
 

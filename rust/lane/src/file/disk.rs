@@ -64,8 +64,8 @@ impl Disk {
     /// # Errors
     ///
     /// As [`open`](Disk::open), and [`Error::Exists`] unless it is to `replace` what is there: a
-    /// file that is not empty, a device whose first block is not zeros; [`Error::Length`] if a
-    /// device is too short. The file that it has made is then removed.
+    /// file that is not empty, a device with other bytes than zeros where the card goes;
+    /// [`Error::Length`] if a device is too short. The file that it has made is then removed.
     pub fn create(
         path: impl AsRef<Path>,
         length: u64,
@@ -100,14 +100,14 @@ impl Disk {
 
     /// Makes it fit for a card of so many bytes.
     fn fit(&mut self, path: &Path, length: u64, replace: bool) -> Result<(), Error> {
-        if !replace && Doing::Read.told(self.in_use())? {
-            return Err(Error::Exists);
-        }
         if self.device && self.length < length {
             return Err(Error::Length {
                 found: self.length,
                 wanted: length,
             });
+        }
+        if !replace && self.in_use(length)? {
+            return Err(Error::Exists);
         }
         if !self.device {
             Doing::Open.told(self.name_for_good(path, length))?;
@@ -116,14 +116,14 @@ impl Disk {
         Ok(())
     }
 
-    /// Is there something that a format would destroy?
-    fn in_use(&mut self) -> io::Result<bool> {
+    /// Is there something that a format of so many bytes would destroy?
+    fn in_use(&mut self, length: u64) -> Result<bool, Error> {
         if !self.device {
             return Ok(self.length > 0);
         }
-        let mut block = Card::zeros(BLOCK);
-        self.read(0, &mut block)?;
-        Ok(block.iter().any(|byte| *byte != 0))
+        let mut bytes = Card::zeros(card_length(length)?);
+        Doing::Read.told(self.read(0, &mut bytes))?;
+        Ok(bytes.iter().any(|byte| *byte != 0))
     }
 
     /// A file has its name for good before it has bytes.
@@ -181,8 +181,14 @@ impl Drive for Disk {
         self.file.read_exact_at(buffer, at)
     }
 
+    /// A short write is a failure; the rest of it is asked for to learn why.
     fn write(&mut self, at: u64, bytes: &[u8]) -> io::Result<()> {
-        self.file.write_all_at(bytes, at)
+        let written = self.file.write_at(bytes, at)?;
+        if written < bytes.len() {
+            self.file.write_at(&bytes[written..], at + written as u64)?;
+            return Err(io::ErrorKind::WriteZero.into());
+        }
+        Ok(())
     }
 
     fn flush(&mut self) -> io::Result<()> {

@@ -19,7 +19,7 @@ pub enum Error {
     },
     /// A write or a flush failed before: the lane is to be opened anew.
     Stopped,
-    /// Another process, or another lane of this one, has the card open.
+    /// Another process, or another lane of this one, has the card open; or the device is mounted.
     Busy,
     /// There is something, which create does not format over unasked.
     Exists,
@@ -107,7 +107,7 @@ impl fmt::Display for Error {
             Error::Stopped => {
                 f.write_str("stopped by a write or flush that failed: open the card anew")
             }
-            Error::Busy => f.write_str("the card is open already, here or in another process"),
+            Error::Busy => f.write_str("the card is open already, or its device is in use"),
             Error::Exists => f.write_str("something is there, which is not formatted over unasked"),
             Error::Length { found, wanted } => {
                 write!(f, "{found} bytes, where the card has {wanted}")

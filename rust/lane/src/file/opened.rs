@@ -7,8 +7,9 @@ use std::io;
 use std::os::unix::fs::{FileTypeExt, MetadataExt, OpenOptionsExt};
 use std::path::Path;
 
-/// Past the page cache: x86-64 Linux's number.
+// x86-64 Linux's numbers: past the page cache, and of a block device alone.
 const O_DIRECT: i32 = 0o40000;
+const O_EXCL: i32 = 0o200;
 /// Bytes that must go down as one.
 const SECTOR: u32 = 512;
 /// File systems that write in place: ext2 to ext4, xfs, vfat, exfat.
@@ -35,9 +36,7 @@ impl Opened {
     /// [`Error::Drive`], [`Error::Busy`], [`Error::Promise`].
     pub fn new(path: &Path, promise: Promise) -> Result<Opened, Error> {
         let (found, direct) = match (direct(path), promise) {
-            (Err(Error::Promise(_)), Promise::Kill) => {
-                (Doing::Open.told(Found::new(path, 0))?, false)
-            }
+            (Err(Error::Promise(_)), Promise::Kill) => (opened(Found::new(path, 0))?, false),
             (found, _) => (found?, true),
         };
         lock(&found.file)?;
@@ -60,11 +59,19 @@ impl Opened {
 fn direct(path: &Path) -> Result<Found, Error> {
     let found = match Found::new(path, O_DIRECT) {
         Err(why) if why.kind() == io::ErrorKind::InvalidInput => return Err(Unkept::Direct.into()),
-        found => Doing::Open.told(found)?,
+        found => opened(found)?,
     };
     match sys::direct_length(&found.file) {
         None | Some(1..=SECTOR) => Ok(found),
         Some(_) => Err(Unkept::Direct.into()),
+    }
+}
+
+/// A device that is in use says so when it is opened.
+fn opened(found: io::Result<Found>) -> Result<Found, Error> {
+    match found {
+        Err(why) if why.kind() == io::ErrorKind::ResourceBusy => Err(Error::Busy),
+        found => Doing::Open.told(found),
     }
 }
 
@@ -83,15 +90,19 @@ struct Found {
 }
 
 impl Found {
+    /// A block device is opened for this process alone: one that is mounted, or part of another, is
+    /// refused.
     fn new(path: &Path, flags: i32) -> io::Result<Found> {
-        let mut options = OpenOptions::new();
-        let options = options.read(true).write(true).custom_flags(flags);
-        let file = options.open(path)?;
-        let told = file.metadata()?;
-        if !told.is_file() && !told.file_type().is_block_device() {
+        let kind = fs::metadata(path)?.file_type();
+        if !kind.is_file() && !kind.is_block_device() {
             let why = "neither a file nor a block device";
             return Err(io::Error::new(io::ErrorKind::Unsupported, why));
         }
+        let alone = if kind.is_file() { 0 } else { O_EXCL };
+        let mut options = OpenOptions::new();
+        let options = options.read(true).write(true).custom_flags(flags | alone);
+        let file = options.open(path)?;
+        let told = file.metadata()?;
         Ok(Found { file, told })
     }
 
