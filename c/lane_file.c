@@ -28,7 +28,8 @@
 
 enum {
     ALIGNMENT = 4096,
-    AT_A_TIME = 1 << 20 /* bytes in one read or write of a create */
+    AT_A_TIME = 1 << 20, /* bytes in one read or write of a create */
+    CARD_MOST = LANE_CARD_MAX * LANE_BLOCK
 };
 
 /* An answer with its reason; a drive of the program's own may tell none that errno.h has. */
@@ -165,6 +166,7 @@ enum { AT_ONCE = 256 }; /* writes under way together: a commit seldom has so man
 
 typedef struct {
     _Alignas(ALIGNMENT) uint8_t block[LANE_BLOCK]; /* its first, as it was found */
+    void *mapping; /* the card, until a lane takes it */
     int fd;
     dev_t below;     /* the block device, or the one that its file system names */
     uint64_t length; /* of what was opened, then of the card */
@@ -396,17 +398,24 @@ static int disk_flush(void *self)
 }
 
 /* What the page cache has is dropped first: a start is to see what the device has. */
-static void *disk_map(void *self, size_t n)
+static void *map_file(int fd, size_t n)
 {
-    const disk *d = self;
 #ifdef POSIX_FADV_DONTNEED
-    posix_fadvise(d->fd, 0, 0, POSIX_FADV_DONTNEED);
+    posix_fadvise(fd, 0, 0, POSIX_FADV_DONTNEED);
 #endif
-    void *card = mmap(NULL, n, PROT_READ | PROT_WRITE, MAP_PRIVATE, d->fd, 0);
+    void *card = mmap(NULL, n, PROT_READ | PROT_WRITE, MAP_PRIVATE, fd, 0);
     if (card == MAP_FAILED)
         return NULL;
     madvise(card, n, MADV_RANDOM);
     return card;
+}
+
+static void *disk_map(void *self, size_t n)
+{
+    disk *d = self;
+    void *card = d->mapping;
+    d->mapping = NULL;
+    return card != NULL ? card : map_file(d->fd, n);
 }
 
 static void disk_unmap(void *self, void *card, size_t n)
@@ -419,6 +428,8 @@ static void disk_close(void *self)
 {
     disk *d = self;
     aio_end(d);
+    if (d->mapping != NULL)
+        disk_unmap(d, d->mapping, (size_t)d->length);
     if (d->fd >= 0)
         close_file(d->fd);
     let_go(d);
@@ -487,19 +498,29 @@ static int ask(const disk *d, enum lane_file_promise promise)
     return promise == LANE_PROMISE_VOUCHED ? LANE_DONE : ask_device(d);
 }
 
-/* Opened, locked and asked; the first block read, if there is one. */
+/* Opened, locked and asked. */
 static int take(disk *d, const char *path, enum lane_file_promise promise)
 {
-    int error, answer = open_direct(d, path, promise);
+    int answer = open_direct(d, path, promise);
     if (answer == LANE_DONE)
         answer = lock(d);
     if (answer == LANE_DONE)
         answer = look_at(d);
-    if (answer == LANE_DONE)
-        answer = ask(d, promise);
-    if (answer != LANE_DONE || d->length < LANE_BLOCK)
-        return answer;
-    error = read_all(d->fd, d->block, LANE_BLOCK, 0);
+    return answer == LANE_DONE ? ask(d, promise) : answer;
+}
+
+/* The first block, if there is one: of a file that is mapped from there, so that it is read once. */
+static int read_first(disk *d, bool unmapped)
+{
+    if (d->length < LANE_BLOCK)
+        return LANE_DONE;
+    if (d->file && !unmapped && d->length <= CARD_MOST)
+        d->mapping = map_file(d->fd, (size_t)d->length);
+    if (d->mapping != NULL) {
+        memcpy(d->block, d->mapping, LANE_BLOCK);
+        return LANE_DONE;
+    }
+    int error = read_all(d->fd, d->block, LANE_BLOCK, 0);
     return error == 0 ? LANE_DONE : because(LANE_FILE_READ, error);
 }
 
@@ -528,13 +549,13 @@ static size_t told(const uint8_t *header)
    card can have. */
 static int measure(disk *d)
 {
-    const uint64_t most = (uint64_t)LANE_CARD_MAX * LANE_BLOCK, card = (uint64_t)told(d->block) * LANE_BLOCK;
+    const uint64_t card = (uint64_t)told(d->block) * LANE_BLOCK;
     if (card != 0 && (d->file ? d->length != card : d->length < card))
         return LANE_FILE_LENGTH;
     if (card != 0)
         d->length = card;
-    else if (!d->file && d->length > most)
-        d->length = most;
+    else if (!d->file && d->length > CARD_MOST)
+        d->length = CARD_MOST;
     return LANE_DONE;
 }
 
@@ -648,6 +669,8 @@ int lane_disk_open(lane_drive *drive, const char *path, const lane_file_options 
     int answer = new_disk(drive, &d, o.promise);
     if (answer == LANE_DONE)
         answer = take(d, path, o.promise);
+    if (answer == LANE_DONE)
+        answer = read_first(d, o.unmapped != 0);
     if (answer == LANE_DONE)
         answer = measure(d);
     return hand_out(drive, d, answer);

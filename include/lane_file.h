@@ -247,7 +247,7 @@ int lane_file_create_on(lane_file **lane, const lane_drive *drive, size_t area, 
 /* The disk's drive for a file or block device, as lane_file_open takes it: opened, locked, promise and length
    asked. Done, it is handed to lane_file_open_on, itself or wrapped, or closed by drive->close(drive->self);
    else *drive is zeros. Its write_runs is NULL where nothing below works on several writes at once. Of the options
-   it takes the promise.
+   it takes promise and unmapped.
    Answers as lane_file_open, but for the library's numbers. */
 int lane_disk_open(lane_drive *drive, const char *path, const lane_file_options *options);
 
