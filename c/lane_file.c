@@ -60,11 +60,11 @@ const char *lane_file_text(int answer)
     case LANE_FILE_BUSY: return "another lane has it open, or the device is in use";
     case LANE_FILE_EXISTS: return "there is a file that is not empty, or a device whose blocks are not zeros";
     case LANE_FILE_LENGTH: return "it is not as long as the card that it holds or is to hold";
-    case LANE_FILE_PROMISE_DIRECT: return "no promise at a power cut: no O_DIRECT for blocks of 512 bytes here";
-    case LANE_FILE_PROMISE_SECTOR: return "no promise at a power cut: a sector of the device is not 512 bytes";
-    case LANE_FILE_PROMISE_DEVICE: return "no promise at a power cut: the block device below is not known";
+    case LANE_FILE_PROMISE_DIRECT: return "the promise is not kept: no O_DIRECT for blocks of 512 bytes here";
+    case LANE_FILE_PROMISE_SECTOR: return "the promise is not kept: a sector of the device is not 512 bytes";
+    case LANE_FILE_PROMISE_DEVICE: return "the promise is not kept: the block device below is not known";
     case LANE_FILE_PROMISE_FILE_SYSTEM:
-        return "no promise at a power cut: the file system is not known to write in place";
+        return "the promise is not kept: the file system is not known to write in place";
     case LANE_FILE_READ: return "the drive was not read";
     case LANE_FILE_WRITE: return "the drive was not written, or only in part";
     case LANE_FILE_FLUSH: return "the drive was not flushed";
@@ -328,12 +328,12 @@ static bool in_place(int fd)
 
 static int ask_device(const disk *d)
 {
+    if (d->file && !in_place(d->fd))
+        return LANE_FILE_PROMISE_FILE_SYSTEM;
     unsigned long logical = sector(d->below, "logical"), physical = sector(d->below, "physical");
     if (logical == 0 || physical == 0)
         return LANE_FILE_PROMISE_DEVICE;
-    if (logical != LANE_BLOCK || physical != LANE_BLOCK)
-        return LANE_FILE_PROMISE_SECTOR;
-    return d->file && !in_place(d->fd) ? LANE_FILE_PROMISE_FILE_SYSTEM : LANE_DONE;
+    return logical == LANE_BLOCK && physical == LANE_BLOCK ? LANE_DONE : LANE_FILE_PROMISE_SECTOR;
 }
 
 /* Without a device below, or through the page cache, the system makes writes one by one in any case. */

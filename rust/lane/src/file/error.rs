@@ -112,7 +112,7 @@ impl fmt::Display for Error {
             Error::Length { found, wanted } => {
                 write!(f, "{found} bytes, where the card has {wanted}")
             }
-            Error::Promise(unkept) => write!(f, "no promise at a power cut: {unkept}"),
+            Error::Promise(unkept) => write!(f, "the promise is not kept: {unkept}"),
         }
     }
 }

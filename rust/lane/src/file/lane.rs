@@ -221,12 +221,16 @@ impl<D: Drive> Lane<D> {
         Ok(())
     }
 
-    /// 13 comes only while a snapshot is pending, and an empty generation has room for any call: so
-    /// neither comes twice.
+    /// 13 comes only while a snapshot is pending; and at 12 a commit is enough, since an empty
+    /// generation has room for any call.
     fn make_room(&mut self, refusal: Refusal) -> Result<(), Error> {
         match (refusal, self.room) {
             (Refusal::MemoryFull, Room::Make | Room::Commit) => self.page_out(),
-            (Refusal::AreaFull, Room::Make | Room::Commit) => self.finish(),
+            (Refusal::AreaFull, Room::Make | Room::Commit)
+                if self.snapshot == Snapshot::Pending =>
+            {
+                self.finish()
+            }
             (Refusal::GenerationFull, Room::Commit) => self.commit(),
             _ => Err(refusal.into()),
         }
