@@ -90,9 +90,10 @@ pub const ALL: [Letter; 10] = [
 ];
 
 /// The way to a commit in steps.
-pub const STEPS: [Letter; 5] = [
+pub const STEPS: [Letter; 6] = [
     Letter::Write0,
     Letter::Snapshot,
+    Letter::Finish,
     Letter::Advance,
     Letter::ToHeader,
     Letter::Reopen,

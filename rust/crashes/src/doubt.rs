@@ -24,56 +24,56 @@ pub struct Spot {
     pub torn: Vec<Way>,
 }
 
+/// A write of a block that is not flushed.
+#[derive(Clone)]
+struct Unflushed {
+    block: usize,
+    bytes: Box<Block>,
+    /// It is all that the write has.
+    alone: bool,
+}
+
+/// What is not flushed, over what is.
 #[derive(Clone)]
 pub struct Doubt {
     /// The card as the last flush left it, behind its end zeros.
     safe: Vec<u8>,
-    mark: u64,
-    spots: Vec<Spot>,
+    /// In the order made.
+    unflushed: Vec<Unflushed>,
     /// The file's length at the last flush, and each since.
     lengths: Vec<usize>,
     /// Once the drive has failed no flush makes anything safe.
     failed: bool,
 }
 
+/// What a cut may leave.
+pub struct Left {
+    pub safe: Vec<u8>,
+    /// A number of its bytes.
+    pub mark: u64,
+    pub lengths: Vec<usize>,
+    /// In the order in which they were first written.
+    pub spots: Vec<Spot>,
+}
+
 impl Doubt {
     pub fn new(card: &[u8]) -> Doubt {
         Doubt {
             safe: card.to_vec(),
-            mark: card_mark(card),
-            spots: Vec::new(),
+            unflushed: Vec::new(),
             lengths: vec![card.len()],
             failed: false,
         }
     }
 
-    pub fn safe(&self) -> &[u8] {
-        &self.safe
-    }
-
-    pub fn spots(&self) -> &[Spot] {
-        &self.spots
-    }
-
-    pub fn lengths(&self) -> &[usize] {
-        &self.lengths
-    }
-
-    /// A number of the safe card's bytes.
-    pub fn mark(&self) -> u64 {
-        self.mark
-    }
-
-    pub fn spot(&self, block: usize) -> Option<&Spot> {
-        self.spots.iter().find(|spot| spot.block == block)
-    }
-
-    /// The headers that a cut may leave.
+    /// The headers that a cut may leave, the last one last.
     pub fn headers(&self) -> Vec<Block> {
-        match self.spot(HEADER) {
-            Some(spot) => spot.whole.iter().map(|way| *way.bytes).collect(),
-            None => vec![block(&self.safe, HEADER)],
-        }
+        let written = self.unflushed.iter().filter(|write| write.block == HEADER);
+        let old = block(&self.safe, HEADER);
+        [old]
+            .into_iter()
+            .chain(written.map(|write| *write.bytes))
+            .collect()
     }
 
     pub fn apply(&mut self, event: &Event) {
@@ -81,48 +81,52 @@ impl Doubt {
             Event::Write { first, bytes, done } => {
                 self.failed |= !done;
                 let alone = bytes.len() == BLOCK;
-                for (i, bytes) in bytes.chunks_exact(BLOCK).enumerate() {
-                    let bytes = bytes.try_into().expect("a block");
-                    self.write(first + i, bytes, alone);
-                }
+                let blocks = bytes.chunks_exact(BLOCK).enumerate();
+                self.unflushed.extend(blocks.map(|(i, bytes)| Unflushed {
+                    block: first + i,
+                    bytes: Box::new(bytes.try_into().expect("a block")),
+                    alone,
+                }));
             }
             Event::Flush { done } => {
                 self.failed |= !done;
-                self.flush();
+                if !self.failed {
+                    self.flush();
+                }
             }
             Event::Length(length) => {
                 self.lengths.push(*length);
                 let end = self.safe.len().max(*length);
                 self.safe.resize(end, 0);
-                self.mark = card_mark(&self.safe);
             }
         }
     }
 
-    fn write(&mut self, block: usize, bytes: &Block, alone: bool) {
-        let place = self.spots.iter().position(|spot| spot.block == block);
-        let place = place.unwrap_or_else(|| {
-            self.spots.push(Spot::new(block, &self.safe));
-            self.spots.len() - 1
-        });
-        self.spots[place].write(bytes, alone);
-    }
-
     fn flush(&mut self) {
-        if self.failed {
-            return;
-        }
-        for spot in self.spots.drain(..) {
-            let (old, new) = (&spot.whole[0], spot.last());
-            self.mark ^= old.mark ^ new.mark;
-            let at = spot.block * BLOCK;
-            self.safe[at..at + BLOCK].copy_from_slice(&*new.bytes);
+        for write in self.unflushed.drain(..) {
+            let at = write.block * BLOCK;
+            self.safe[at..at + BLOCK].copy_from_slice(&*write.bytes);
         }
         let length = *self.lengths.last().expect("at least one");
         self.lengths = vec![length];
-        if length != self.safe.len() {
-            self.safe.truncate(length);
-            self.mark = card_mark(&self.safe);
+        self.safe.truncate(length);
+    }
+
+    pub fn left(&self) -> Left {
+        let mut spots: Vec<Spot> = Vec::new();
+        for write in &self.unflushed {
+            let place = spots.iter().position(|spot| spot.block == write.block);
+            let place = place.unwrap_or_else(|| {
+                spots.push(Spot::new(write.block, &self.safe));
+                spots.len() - 1
+            });
+            spots[place].write(&write.bytes, write.alone);
+        }
+        Left {
+            safe: self.safe.clone(),
+            mark: card_mark(&self.safe),
+            lengths: self.lengths.clone(),
+            spots,
         }
     }
 }
@@ -238,29 +242,31 @@ mod tests {
             doubt.apply(&write(2, &[byte; BLOCK]));
         }
         let first = |way: &Way| way.bytes[0];
-        let whole: Vec<u8> = doubt.spots()[0].whole.iter().map(first).collect();
+        let whole: Vec<u8> = doubt.left().spots[0].whole.iter().map(first).collect();
         assert_eq!(whole, [7, 2, 1]);
         doubt.apply(&Event::Flush { done: true });
-        assert!(doubt.spots().is_empty());
-        assert_eq!(doubt.safe()[2 * BLOCK], 1);
-        assert_eq!(doubt.mark(), card_mark(doubt.safe()));
+        assert!(doubt.left().spots.is_empty());
+        assert_eq!(doubt.safe[2 * BLOCK], 1);
     }
 
     #[test]
     fn only_a_header_by_itself_is_whole() {
         let mut doubt = Doubt::new(&[7; 3 * BLOCK]);
         doubt.apply(&write(0, &[1; BLOCK]));
-        assert!(doubt.spots()[0].torn.is_empty());
+        assert!(doubt.left().spots[0].torn.is_empty());
         doubt.apply(&write(0, &[2; 2 * BLOCK]));
-        assert!(names(&doubt.spots()[0]).contains(&"any bytes"));
-        assert!(names(&doubt.spots()[1]).contains(&"half old, half new"));
+        let spots = doubt.left().spots;
+        assert!(names(&spots[0]).contains(&"any bytes"));
+        assert!(names(&spots[1]).contains(&"half old, half new"));
+        let headers: Vec<u8> = doubt.headers().iter().map(|header| header[0]).collect();
+        assert_eq!(headers, [7, 1, 2]);
     }
 
     #[test]
     fn a_block_that_is_rewritten_as_it_is_may_be_torn() {
         let mut doubt = Doubt::new(&[7; 3 * BLOCK]);
         doubt.apply(&write(2, &[7; BLOCK]));
-        let spot = &doubt.spots()[0];
+        let spot = &doubt.left().spots[0];
         assert_eq!(spot.whole.len(), 1);
         assert_eq!(names(spot), ["any bytes", "zeros"]);
     }
@@ -271,7 +277,7 @@ mod tests {
         doubt.apply(&write(2, &[1; BLOCK]));
         doubt.apply(&Event::Flush { done: false });
         doubt.apply(&Event::Flush { done: true });
-        assert_eq!(doubt.spots()[0].whole.len(), 2);
-        assert_eq!(doubt.safe()[2 * BLOCK], 7);
+        assert_eq!(doubt.left().spots[0].whole.len(), 2);
+        assert_eq!(doubt.safe[2 * BLOCK], 7);
     }
 }

@@ -42,6 +42,9 @@ pub trait Lane {
 
 /// A layer over a recorded drive.
 pub trait Layer {
+    /// What it is, and how it is used.
+    fn name(&self) -> String;
+
     /// How many bytes may stand on the drive before a create of a card of this shape.
     fn lengths_before(&self, shape: &Shape) -> Vec<usize> {
         vec![shape.length()]

@@ -12,7 +12,7 @@ use lane::BLOCK;
 const BEHIND: usize = 3;
 
 /// How the drive is reached.
-#[derive(Clone, Copy)]
+#[derive(Clone, Copy, Debug)]
 pub enum Door {
     /// By its path.
     Path(Setting),
@@ -46,6 +46,10 @@ impl InC {
 }
 
 impl Layer for InC {
+    fn name(&self) -> String {
+        format!("C, {:?}, unmapped {}", self.door, self.unmapped)
+    }
+
     /// A file is not there before, or has any length; a device is longer than the card.
     fn lengths_before(&self, shape: &Shape) -> Vec<usize> {
         let (length, more) = (shape.length(), BEHIND * BLOCK);

@@ -12,8 +12,9 @@ pub fn shows(lane: &mut dyn Lane, oids: &[u32], pages: &Pages) -> Result<(), Str
             let (is, right) = (shown.count, page.count);
             return Err(format!("OID {oid} has count {is}, and {right} is right"));
         }
-        let differs = (0..BLOCK).find(|i| shown.bytes[*i] != page.bytes[*i]);
-        if let Some(at) = differs {
+        if shown.bytes != page.bytes {
+            let differs = (0..BLOCK).find(|i| shown.bytes[*i] != page.bytes[*i]);
+            let at = differs.expect("a byte that differs");
             let (is, right) = (shown.bytes[at], page.bytes[at]);
             return Err(format!(
                 "OID {oid}: byte {at} is {is}, and {right} is right"

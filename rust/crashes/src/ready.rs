@@ -39,6 +39,10 @@ impl Drive for Recorded {
 pub struct Ready<F>(pub F);
 
 impl<D: Drive + 'static, F: Fn(Shared) -> D> Layer for Ready<F> {
+    fn name(&self) -> String {
+        "Rust".to_string()
+    }
+
     fn create(&self, drive: &Shared, shape: &Shape) -> Result<Box<dyn layer::Lane>, Fault> {
         let drive = self.0(drive.clone());
         let made = options(shape).create_on(drive, shape.area, &shape.ranges);

@@ -25,19 +25,19 @@ type Row = (&'static str, u64, u64);
 impl Tally {
     fn rows(&self) -> [Row; 13] {
         [
-            ("days", self.days, 60_000),
-            ("calls", self.calls, 350_000),
-            ("points", self.points, 120_000),
+            ("days", self.days, 190_000),
+            ("calls", self.calls, 1_000_000),
+            ("points", self.points, 300_000),
             ("rounds of the ring", self.rounds, 1_000),
             ("failures of the drive", self.failures, 600),
-            ("cards opened", self.cards, 350_000),
-            ("  header old", self.old_headers, 3_000),
-            ("  header new", self.new_headers, 3_000),
-            ("  torn", self.torn, 150_000),
-            ("  spoilt", self.spoilt, 35_000),
+            ("cards opened", self.cards, 400_000),
+            ("  header old", self.old_headers, 4_000),
+            ("  header new", self.new_headers, 4_000),
+            ("  torn", self.torn, 200_000),
+            ("  spoilt", self.spoilt, 70_000),
             ("  in create", self.create, 15_000),
             ("  after failures", self.after_failures, 7_000),
-            ("  second cuts", self.second, 50_000),
+            ("  second cuts", self.second, 60_000),
         ]
     }
 

@@ -106,7 +106,7 @@ impl<'a> Trial<'a> {
             doubt,
             record: shared(before.bytes),
             lane: None,
-            told: vec![shape.to_string()],
+            told: vec![layer.name(), shape.to_string()],
             walked: 0,
             life: Life::Creating(before.shows.map(|pages| Box::new((header, pages)))),
             part: Part::Plain,

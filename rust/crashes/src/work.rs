@@ -140,9 +140,11 @@ pub fn failures(
     failures::each(run, layer, &day, &before(layer, &day.shape), ways)
 }
 
+/// Letters of a short day.
+const LONGEST: usize = 5;
 /// How many of each are made, on either layer.
 const CREATES: u64 = 25;
-const LONG_DAYS: u64 = 110;
+const LONG_DAYS: u64 = 150;
 const FAILING_DAYS: u64 = 25;
 
 /// How operations fail. A drive in Rust is not told of short writes.
@@ -227,9 +229,10 @@ impl Both {
             create(&mut self.rust, &Ready(Recorded), seed)?;
             create(&mut self.c, &in_c, seed)?;
         }
-        short_days(&mut self.rust, &Ready(Recorded), 4)?;
+        short_days(&mut self.rust, &Ready(Recorded), LONGEST)?;
         for (i, in_c) in in_c().iter().enumerate() {
-            short_days(&mut self.c, in_c, if i == 0 { 4 } else { 3 })?;
+            let longest = if i == 0 { LONGEST } else { LONGEST - 2 };
+            short_days(&mut self.c, in_c, longest)?;
         }
         for (seed, in_c) in self.seeds(2, LONG_DAYS) {
             let rust = long(&mut self.rust, &Ready(Recorded), seed, LONG)?;
@@ -247,13 +250,13 @@ impl Both {
     }
 }
 
-/// All days of so many letters, and of two more where there are fewer to choose from.
+/// All days of so many letters, and of one more where there are fewer to choose from.
 fn short_days(run: &mut Run, layer: &dyn Layer, longest: usize) -> Result<(), Wrong> {
     let (wide, narrow) = (tiny(10, Room::Make), tiny(8, Room::Commit));
     short(run, layer, &ALL, longest, &wide, SHORT)?;
-    short(run, layer, &ALL, longest, &narrow, SHORT)?;
-    short(run, layer, &FAR, longest + 2, &wide, SHORT)?;
-    short(run, layer, &STEPS, longest + 2, &wide, SHORT)
+    short(run, layer, &ALL, longest - 1, &narrow, SHORT)?;
+    short(run, layer, &FAR, longest + 1, &wide, SHORT)?;
+    short(run, layer, &STEPS, longest + 1, &wide, SHORT)
 }
 
 /// Both layers bring the same writes and flushes to the drive. Only a file takes a length.

@@ -11,7 +11,7 @@ const LAST: usize = 24;
 #[derive(Debug)]
 pub struct Wrong {
     what: String,
-    /// The card, then calls with their answers.
+    /// The layer and the card, then calls with their answers.
     told: Vec<String>,
     /// The last writes and flushes.
     point: Vec<String>,

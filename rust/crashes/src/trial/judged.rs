@@ -2,10 +2,10 @@
 //! with.
 
 use super::{Life, Part, Trial};
-use crate::block::{block, commit, Block, HEADER};
+use crate::block::{commit, Block};
 use crate::cuts::{cuts, Cut, Effort};
 use crate::day::{more, Call};
-use crate::doubt::Doubt;
+use crate::doubt::{Doubt, Left};
 use crate::layer::{Fault, Lane};
 use crate::opened::shows;
 use crate::recorded::{shared, Event, Record, Shared};
@@ -32,24 +32,23 @@ impl Trial<'_> {
     /// The cards that a cut may leave here.
     pub(super) fn point(&mut self) -> Result<(), Wrong> {
         self.run.tally.points += 1;
-        for cut in cuts(&self.doubt, &self.effort, &mut self.run.rng) {
-            self.judge(&cut)?;
+        let left = self.doubt.left();
+        for cut in cuts(&left, &self.effort, &mut self.run.rng) {
+            self.judge(&left, &cut)?;
         }
         Ok(())
     }
 
-    fn judge(&mut self, cut: &Cut) -> Result<(), Wrong> {
-        let card = cut.card(&self.doubt);
-        let header = block(&card, HEADER);
-        let right = match self.right(&header) {
+    fn judge(&mut self, left: &Left, cut: &Cut) -> Result<(), Wrong> {
+        let right = match self.right(&cut.header(left)) {
             Ok(right) => right,
-            Err(what) => return self.wrong_card(cut, what),
+            Err(what) => return self.tell(what, cut.text(left)),
         };
-        if !cut.is_spoilt() && !self.run.seen.insert(self.mark(cut, &right)) {
+        if !cut.is_spoilt() && !self.run.seen.insert(self.mark(left, cut, &right)) {
             return Ok(());
         }
-        self.count(cut);
-        let record = shared(card);
+        self.count(left, cut);
+        let record = shared(cut.card(left));
         let opened = match self.layer.open(&record, self.shape) {
             Ok(mut lane) => {
                 let shown = shows(&mut *lane, &self.oids, &right.pages);
@@ -60,9 +59,9 @@ impl Trial<'_> {
         };
         let opened = opened.and_then(|lane| untouched(&mut record.borrow_mut()).map(|()| lane));
         match opened {
-            Ok(Some(lane)) => self.may_go_on(cut, lane, record),
+            Ok(Some(lane)) => self.may_go_on(&cut.text(left), lane, record),
             Ok(None) => Ok(()),
-            Err(what) => self.wrong_card(cut, what),
+            Err(what) => self.tell(what, cut.text(left)),
         }
     }
 
@@ -91,21 +90,21 @@ impl Trial<'_> {
     }
 
     /// A number of the card and of all that it is held to and counted as.
-    fn mark(&self, cut: &Cut, right: &Right) -> u64 {
-        let header = match cut.has_new_header(&self.doubt) {
+    fn mark(&self, left: &Left, cut: &Cut, right: &Right) -> u64 {
+        let header = match cut.has_new_header(left) {
             None => 0,
             Some(new) => 1 + u64::from(new),
         };
         let part = (3 * self.part as u64 + header).wrapping_mul(0x9E6C_63D0_876A_68DE);
-        cut.mark(&self.doubt) ^ right.mark ^ part
+        cut.mark(left) ^ right.mark ^ part
     }
 
-    fn count(&mut self, cut: &Cut) {
+    fn count(&mut self, left: &Left, cut: &Cut) {
         let tally = &mut self.run.tally;
         tally.cards += 1;
         tally.spoilt += u64::from(cut.is_spoilt());
-        tally.torn += u64::from(cut.is_torn(&self.doubt));
-        match (&self.life, cut.has_new_header(&self.doubt)) {
+        tally.torn += u64::from(cut.is_torn(left));
+        match (&self.life, cut.has_new_header(left)) {
             (Life::Creating(_), _) => tally.create += 1,
             (Life::Made, Some(true)) => tally.new_headers += 1,
             (Life::Made, Some(false)) => tally.old_headers += 1,
@@ -119,7 +118,7 @@ impl Trial<'_> {
     }
 
     /// Some of the cards that were opened are gone on with, and cut again.
-    fn may_go_on(&mut self, cut: &Cut, lane: Box<dyn Lane>, record: Shared) -> Result<(), Wrong> {
+    fn may_go_on(&mut self, cut: &str, lane: Box<dyn Lane>, record: Shared) -> Result<(), Wrong> {
         let made = matches!(self.life, Life::Made);
         if !made || !self.run.rng.chance(self.effort.go_on) {
             return Ok(());
@@ -128,7 +127,7 @@ impl Trial<'_> {
         let commit = commit(record.borrow().bytes());
         tables.opened(commit).expect("it was judged");
         let mut told = self.told.clone();
-        told.push(format!("cut: {}", cut.text(&self.doubt)));
+        told.push(format!("cut: {cut}"));
         let mut calls = Vec::new();
         for _ in 0..2 {
             let length = self.run.rng.between(1, 4);
@@ -153,10 +152,6 @@ impl Trial<'_> {
             part: Part::Second,
         };
         calls.iter().try_for_each(|call| second.call(call, true))
-    }
-
-    fn wrong_card(&self, cut: &Cut, what: String) -> Result<(), Wrong> {
-        self.tell(what, cut.text(&self.doubt))
     }
 }
 
