@@ -1,8 +1,8 @@
-//! Single calls, in nanoseconds: medians of short batches. Where a store has no such call there is
-//! no number.
+//! Single calls of a lane store over a card in memory, in nanoseconds: medians of short batches.
 
+use crate::card::{fresh_page, FRAMES};
 use crate::clock::{median, Clock};
-use crate::controller::{fresh_page, Calls, MEMORY};
+use crate::controller::{Calls, Controller};
 use crate::shape::{same_bytes, Shape};
 use crate::store::PageStore;
 use crate::subject::{spread, Subject};
@@ -10,8 +10,10 @@ use lane::BLOCK;
 use model::Kind;
 use std::hint::black_box;
 
+type Own = Subject<Controller>;
+
 /// Pages of a batch of first writes; a fresh page takes two of the memory frames.
-const BATCH: usize = MEMORY / BLOCK / 2;
+const BATCH: usize = FRAMES / 2;
 /// In `spread`'s order: pages from here on stand in no directory of any shape.
 const UNCHANGED: usize = 600;
 const UNCHANGED_PAGES: usize = 256;
@@ -32,63 +34,52 @@ pub fn floor(clock: &Clock, samples: usize) -> f64 {
     })
 }
 
-pub fn key(clock: &Clock, subject: &mut Subject, shape: Shape, samples: usize) -> Option<f64> {
-    let lane = shape.fill(subject)?;
+pub fn key(clock: &Clock, own: &mut Own, shape: Shape, samples: usize) -> f64 {
+    let lane = shape.fill(own);
     let n = shape.batch();
-    Some(median(samples, |sample| {
+    median(samples, |sample| {
         clock.batch(n, |i| {
             let count = lane.calls.key(unchanged(sample * n + i));
             assert_eq!(count, Ok(0), "key");
         })
-    }))
+    })
 }
 
-/// A page that has not changed: a lane store searches every directory in vain.
-pub fn read_home(clock: &Clock, subject: &mut Subject, shape: Shape, samples: usize) -> f64 {
-    // Only a lane store has directories to fill.
-    let _ = shape.fill(subject);
+/// A page that has not changed: every directory is searched in vain.
+pub fn read_home(clock: &Clock, own: &mut Own, shape: Shape, samples: usize) -> f64 {
+    let lane = shape.fill(own);
     let mut page = [0; BLOCK];
     let n = shape.batch();
     median(samples, |sample| {
         clock.batch(n, |i| {
             let oid = unchanged(sample * n + i);
-            subject.store.read(oid, black_box(&mut page));
+            lane.calls.read(oid, black_box(&mut page)).expect("read");
         })
     })
 }
 
 /// A page that waits in the current generation.
-pub fn read_waiting(
-    clock: &Clock,
-    subject: &mut Subject,
-    shape: Shape,
-    samples: usize,
-) -> Option<f64> {
-    let lane = shape.fill(subject)?;
+pub fn read_waiting(clock: &Clock, own: &mut Own, shape: Shape, samples: usize) -> f64 {
+    let lane = shape.fill(own);
     let mut page = [0; BLOCK];
-    Some(median(samples, |_| {
+    median(samples, |_| {
         clock.batch(shape.batch(), |i| {
             let oid = spread(shape.waiting(i));
             lane.calls.read(oid, black_box(&mut page)).expect("read");
         })
-    }))
+    })
 }
 
 /// A whole-page write of a page that waits in the current generation.
-pub fn write_waiting(
-    clock: &Clock,
-    subject: &mut Subject,
-    shape: Shape,
-    samples: usize,
-) -> Option<f64> {
-    let pages = same_bytes(subject, 0, shape.total());
-    let lane = shape.fill(subject)?;
-    Some(median(samples, |_| {
+pub fn write_waiting(clock: &Clock, own: &mut Own, shape: Shape, samples: usize) -> f64 {
+    let pages = same_bytes(own, 0, shape.total());
+    let lane = shape.fill(own);
+    median(samples, |_| {
         clock.batch(shape.batch(), |i| {
             let (oid, page) = &pages[shape.waiting(i)];
             lane.calls.write(*oid, page).expect("write");
         })
-    }))
+    })
 }
 
 #[derive(Clone, Copy)]
@@ -97,53 +88,50 @@ pub enum Turn {
     Again,
 }
 
-/// Whole-page writes of a batch of pages: the first since the last snapshot or begin, or one more
-/// of the same pages.
-pub fn write(clock: &Clock, subject: &mut Subject, turn: Turn, samples: usize) -> f64 {
-    let pages = same_bytes(subject, 0, BATCH);
-    subject.restart();
-    let store = &mut subject.store;
+/// Whole-page writes of a batch of pages: the first since the last snapshot, or one more of the same
+/// pages.
+pub fn write(clock: &Clock, own: &mut Own, turn: Turn, samples: usize) -> f64 {
+    let pages = same_bytes(own, 0, BATCH);
+    let lane = &mut own.store;
     median(samples, |_| {
-        store.begin();
+        lane.abort();
         let mut write_all = || {
             clock.batch(BATCH, |i| {
                 let (oid, page) = &pages[i];
-                store.write(*oid, page);
+                lane.calls.write(*oid, page).expect("write");
             })
         };
         let first = write_all();
-        let ns = match turn {
+        match turn {
             Turn::First => first,
             Turn::Again => write_all(),
-        };
-        store.abort();
-        ns
+        }
     })
 }
 
 /// One call on a fresh page of each of a batch of runs, dropped again.
 fn each_run(
     clock: &Clock,
-    subject: &mut Subject,
+    own: &mut Own,
     samples: usize,
     call: impl Fn(&mut dyn Calls, u32),
-) -> Option<f64> {
-    let lane = subject.store.lane()?;
-    Some(median(samples, |_| {
+) -> f64 {
+    let lane = &mut own.store;
+    median(samples, |_| {
         lane.abort();
         clock.batch(BATCH, |i| call(lane.calls.as_mut(), fresh_page(i as u32)))
-    }))
+    })
 }
 
 /// The first write to a page of zeros: page and pot take a place each.
-pub fn write_fresh(clock: &Clock, subject: &mut Subject, samples: usize) -> Option<f64> {
-    each_run(clock, subject, samples, |lane, oid| {
+pub fn write_fresh(clock: &Clock, own: &mut Own, samples: usize) -> f64 {
+    each_run(clock, own, samples, |lane, oid| {
         lane.write(oid, &[7; BLOCK]).expect("write");
     })
 }
 
-pub fn rescind(clock: &Clock, subject: &mut Subject, samples: usize) -> Option<f64> {
-    each_run(clock, subject, samples, |lane, oid| {
+pub fn rescind(clock: &Clock, own: &mut Own, samples: usize) -> f64 {
+    each_run(clock, own, samples, |lane, oid| {
         lane.rescind(oid).expect("rescind");
     })
 }
@@ -151,44 +139,38 @@ pub fn rescind(clock: &Clock, subject: &mut Subject, samples: usize) -> Option<f
 /// Some calls after a batch of first writes, dropped again.
 fn after_writes(
     clock: &Clock,
-    subject: &mut Subject,
+    own: &mut Own,
     samples: usize,
     calls: usize,
     call: impl Fn(&mut dyn Calls),
-) -> Option<f64> {
-    let pages = same_bytes(subject, 0, BATCH);
-    let lane = subject.store.lane()?;
-    Some(median(samples, |_| {
+) -> f64 {
+    let pages = same_bytes(own, 0, BATCH);
+    let lane = &mut own.store;
+    median(samples, |_| {
         lane.abort();
         lane.change(&pages);
         clock.batch(calls, |_| call(lane.calls.as_mut()))
-    }))
+    })
 }
 
-pub fn page_out(clock: &Clock, subject: &mut Subject, samples: usize) -> Option<f64> {
-    after_writes(clock, subject, samples, BATCH, |lane| {
+pub fn page_out(clock: &Clock, own: &mut Own, samples: usize) -> f64 {
+    after_writes(clock, own, samples, BATCH, |lane| {
         lane.page_out().expect("page-out");
     })
 }
 
-pub fn snapshot(clock: &Clock, subject: &mut Subject, samples: usize) -> Option<f64> {
-    after_writes(clock, subject, samples, 1, |lane| {
+pub fn snapshot(clock: &Clock, own: &mut Own, samples: usize) -> f64 {
+    after_writes(clock, own, samples, 1, |lane| {
         lane.snapshot().expect("snapshot");
     })
 }
 
 /// One kind of advance, on the mean of a commit of so many pages.
-pub fn advance(
-    clock: &Clock,
-    subject: &mut Subject,
-    kind: Kind,
-    pages: usize,
-    samples: usize,
-) -> Option<f64> {
-    let pages = same_bytes(subject, 0, pages);
-    let lane = subject.store.lane()?;
+pub fn advance(clock: &Clock, own: &mut Own, kind: Kind, pages: usize, samples: usize) -> f64 {
+    let pages = same_bytes(own, 0, pages);
+    let lane = &mut own.store;
     lane.abort();
-    Some(median(samples, |_| {
+    median(samples, |_| {
         let (mut total, mut calls) = (0.0, 0);
         lane.change(&pages);
         lane.calls.snapshot().expect("snapshot");
@@ -199,19 +181,15 @@ pub fn advance(
             }
         }
         total / f64::from(calls)
-    }))
+    })
 }
 
-/// From a stopped store to one that can be read; a lane store has so many entries committed.
-pub fn start(clock: &Clock, subject: &mut Subject, entries: usize, samples: usize) -> f64 {
-    let pages = same_bytes(subject, 0, entries);
-    if let Some(lane) = subject.store.lane() {
-        lane.abort();
-        lane.change(&pages);
-        lane.commit();
-    }
-    median(samples, |_| {
-        subject.store.stop();
-        clock.time(|| subject.store.start()).0
-    })
+/// The call start, with so many entries committed.
+pub fn start(clock: &Clock, own: &mut Own, entries: usize, samples: usize) -> f64 {
+    let pages = same_bytes(own, 0, entries);
+    let lane = &mut own.store;
+    lane.abort();
+    lane.change(&pages);
+    lane.commit();
+    median(samples, |_| clock.time(|| lane.start()).0)
 }

@@ -1,104 +1,46 @@
-//! The file of a card, kept as include/lane.h asks of a device: past the page cache, where its file
-//! system knows O_DIRECT.
+//! The card that is measured: its geometry, and which pages have bytes.
 
-use crate::controller::card_length;
-use crate::map::{Map, ALIGNMENT};
-use lane::BLOCK;
-use std::fs::File;
-use std::io;
-use std::os::unix::fs::{FileExt, OpenOptionsExt};
-use std::path::{Path, PathBuf};
+use lane::{Range, BLOCK};
 
-/// Of x86-64 Linux, as the library is.
-const O_DIRECT: i32 = 0o40000;
-const EINVAL: i32 = 22;
+pub const AREA: usize = 512;
+pub const FRAMES: usize = 64;
+const RUN: u32 = 102;
 
-fn open(path: &Path, direct: bool) -> io::Result<File> {
-    let flags = if direct { O_DIRECT } else { 0 };
-    File::options()
-        .read(true)
-        .write(true)
-        .custom_flags(flags)
-        .open(path)
+/// Pages of the first range are written before anything is measured, those of the second never.
+pub const FIRST: u32 = 1_000;
+pub const WRITTEN: u32 = 40 * RUN;
+const FRESH: u32 = FIRST + WRITTEN;
+const UNWRITTEN: u32 = 32 * RUN;
+
+pub const RANGES: [Range; 2] = [
+    Range {
+        first: FIRST,
+        pages: WRITTEN,
+    },
+    Range {
+        first: FRESH,
+        pages: UNWRITTEN,
+    },
+];
+
+/// Pages of a commit that needs no page-out: room is left for the pots that they change.
+pub const WAITING: usize = FRAMES - 4;
+/// Pages of a commit that nearly fills half the area.
+pub const MANY: usize = 240;
+
+/// The first page of the i-th run of pages never written.
+pub fn fresh_page(i: u32) -> u32 {
+    FRESH + i * RUN
 }
 
-/// Whether the file system of a folder knows O_DIRECT.
-pub fn direct_known(folder: &Path) -> bool {
-    let path = folder.join("direct");
-    File::create(&path).expect("a file in the folder");
-    match open(&path, true) {
-        Ok(_) => true,
-        Err(e) if e.raw_os_error() == Some(EINVAL) => false,
-        Err(e) => panic!("a file with O_DIRECT: {e}"),
-    }
+/// The ranges as the library takes them: first OID and number of pages of each in turn.
+pub fn numbers() -> [u32; 4] {
+    let [a, b] = RANGES;
+    [a.first, a.pages, b.first, b.pages]
 }
 
-fn read_aligned(file: &File, card: &mut [u8]) {
-    file.read_exact_at(card, 0).expect("a card on the file");
-}
-
-/// A file that the blocks of a card are written to; they are durable once it is synced.
-pub struct Synced {
-    path: PathBuf,
-    direct: bool,
-    file: File,
-    /// Aligned, as O_DIRECT asks: what is written, and what is read where the card is not aligned.
-    block: Map,
-    card: Map,
-    syncs: u64,
-}
-
-impl Synced {
-    /// A new file of a card's length.
-    pub fn create(path: &Path, direct: bool) -> Synced {
-        let file = File::create_new(path).expect("a file for the card");
-        file.set_len(card_length() as u64).expect("room for a card");
-        Synced {
-            path: path.to_path_buf(),
-            direct,
-            file: open(path, direct).expect("the card's file"),
-            block: Map::new(BLOCK),
-            card: Map::new(card_length()),
-            syncs: 0,
-        }
-    }
-
-    /// One write of one block, and of nothing beside it.
-    pub fn put(&mut self, card: &[u8], block: usize) {
-        let at = block * BLOCK;
-        self.block.copy_from_slice(&card[at..at + BLOCK]);
-        let written = self.file.write_at(&self.block, at as u64);
-        assert_eq!(written.expect("a block on the file"), BLOCK, "bytes of it");
-    }
-
-    /// All blocks of a format, so that a cut leaves no header until they are down.
-    pub fn put_format(&mut self, card: &[u8]) {
-        self.put(&[0; BLOCK], 0);
-        self.sync();
-        (1..card.len() / BLOCK).for_each(|block| self.put(card, block));
-        self.sync();
-        self.put(card, 0);
-        self.sync();
-    }
-
-    pub fn sync(&mut self) {
-        self.file.sync_data().expect("the file synced");
-        self.syncs += 1;
-    }
-
-    /// Opens the file again and reads the whole card, by way of aligned memory if it is not aligned.
-    pub fn read(&mut self, card: &mut [u8]) {
-        self.file = open(&self.path, self.direct).expect("the card's file");
-        if card.as_ptr().align_offset(ALIGNMENT) == 0 {
-            read_aligned(&self.file, card);
-        } else {
-            read_aligned(&self.file, &mut self.card);
-            card.copy_from_slice(&self.card);
-        }
-    }
-
-    /// Syncs made so far.
-    pub fn syncs(&self) -> u64 {
-        self.syncs
-    }
+/// Bytes of the card.
+pub fn length() -> usize {
+    let homes = WRITTEN + WRITTEN / RUN + UNWRITTEN + UNWRITTEN / RUN;
+    (1 + AREA + homes as usize) * BLOCK
 }

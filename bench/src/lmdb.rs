@@ -2,7 +2,7 @@
 
 use crate::store::{Page, PageStore};
 use std::ffi::{c_char, c_int, c_uint, c_void, CStr, CString};
-use std::path::Path;
+use std::path::{Path, PathBuf};
 use std::ptr::{null, null_mut};
 
 type Environment = *mut c_void;
@@ -64,6 +64,7 @@ struct Opened {
 }
 
 pub struct Lmdb {
+    path: PathBuf,
     name: CString,
     opened: Option<Opened>,
 }
@@ -98,7 +99,8 @@ fn value<T>(x: &T) -> Value {
 }
 
 impl Opened {
-    fn open(name: &CStr) -> Opened {
+    /// A database that is there can be opened in a transaction that reads.
+    fn open(name: &CStr, flags: c_uint) -> Opened {
         let mut env = null_mut();
         let mut dbi = 0;
         // SAFETY: each call has what the one before it made; the name has an end.
@@ -106,7 +108,7 @@ impl Opened {
             check(mdb_env_create(&mut env));
             check(mdb_env_set_mapsize(env, MAP_SIZE));
             check(mdb_env_open(env, name.as_ptr(), NO_SUBDIR, 0o600));
-            let txn = begin(env, 0);
+            let txn = begin(env, flags);
             check(mdb_dbi_open(txn, null(), INTEGER_KEY, &mut dbi));
             check(mdb_txn_commit(txn));
         }
@@ -136,8 +138,11 @@ impl Lmdb {
     /// A new database that holds the given pages.
     pub fn create(path: &Path, pages: &[(u32, Page)]) -> Lmdb {
         let name = CString::new(path.to_str().expect("a path in UTF-8")).expect("a path");
-        let mut store = Lmdb { name, opened: None };
-        store.start();
+        let mut store = Lmdb {
+            path: path.to_path_buf(),
+            opened: Some(Opened::open(&name, 0)),
+            name,
+        };
         store.begin();
         for (oid, page) in pages {
             store.write(*oid, page);
@@ -186,20 +191,17 @@ impl PageStore for Lmdb {
         check(unsafe { mdb_txn_commit(self.opened().writer) });
     }
 
-    fn abort(&mut self) {
-        // SAFETY: a writer is under way, and ends here.
-        unsafe { mdb_txn_abort(self.opened().writer) };
-    }
-
-    /// Nothing is left to do: the pages of a commit are never moved.
-    fn bring_home(&mut self) {}
-
-    /// An environment may be open only once in a process.
+    /// An environment may be open only once in a process. Closing it writes nothing.
     fn stop(&mut self) {
         self.opened = None;
     }
 
     fn start(&mut self) {
-        self.opened = Some(Opened::open(&self.name));
+        self.opened = Some(Opened::open(&self.name, READ_ONLY));
+    }
+
+    fn files(&self) -> Vec<PathBuf> {
+        let lock = format!("{}-lock", self.path.display());
+        vec![self.path.clone(), lock.into()]
     }
 }

@@ -1,30 +1,43 @@
-//! One table: the proved library, the plain model, SQLite and LMDB, on one machine in one run.
+//! One table: the ready layers in Rust and C, LMDB and SQLite, on one machine in one run; then the
+//! library's own time.
 
 #![deny(clippy::undocumented_unsafe_blocks)]
 
 mod calls;
 mod card;
 mod clock;
-mod commits;
+mod cold;
 mod controller;
+mod counted;
+mod files;
 mod lmdb;
 mod machine;
-mod map;
 mod modelled;
+mod own;
 mod proved;
-mod report;
+mod ready;
+mod ready_c;
+mod rounds;
 mod shape;
+mod singles;
 mod sqlite;
 mod store;
 mod subject;
 mod table;
+mod work;
 
-use report::{Pace, Report};
+use clock::Clock;
+use files::Files;
+use lane::file::{Options, Promise};
+use machine::Place;
+use own::OwnTime;
+use rounds::{Pace, Rounds};
 use std::env;
 use std::fs;
 use std::io;
 use std::path::{Path, PathBuf};
 use std::process::{self, ExitCode};
+use table::Table;
 
 /// Where files go if no folder is named: to a memory file system, so that no disk is measured.
 const MEMORY_FILES: &str = "/dev/shm";
@@ -46,41 +59,116 @@ impl Drop for Scratch {
     }
 }
 
-/// The pace, and the folder to put the files in.
-fn asked() -> Option<(Pace, PathBuf)> {
-    let words = env::args().skip(1);
-    let (options, folders): (Vec<_>, Vec<_>) = words.partition(|word| word.starts_with('-'));
-    let pace = match &options[..] {
-        [] => Pace::FULL,
-        [quick] if quick == "--quick" => Pace::QUICK,
-        _ => return None,
+/// What is asked for.
+struct Asked {
+    pace: Pace,
+    folder: PathBuf,
+    /// Where the figures are saved.
+    save: Option<PathBuf>,
+}
+
+fn asked() -> Option<Asked> {
+    let mut asked = Asked {
+        pace: Pace::FULL,
+        folder: MEMORY_FILES.into(),
+        save: None,
     };
-    match &folders[..] {
-        [] => Some((pace, MEMORY_FILES.into())),
-        [folder] => Some((pace, folder.into())),
-        _ => None,
+    let mut words = env::args().skip(1);
+    while let Some(word) = words.next() {
+        match word.as_str() {
+            "--quick" => asked.pace = Pace::QUICK,
+            "--save" => asked.save = Some(words.next()?.into()),
+            option if option.starts_with('-') => return None,
+            folder => asked.folder = folder.into(),
+        }
+    }
+    Some(asked)
+}
+
+/// What the ready layer says where it is asked for the promise at a power cut.
+fn promise(folder: &Path) -> String {
+    let card = folder.join("asked.card");
+    match Options::new().create(&card, card::AREA, &card::RANGES) {
+        Ok(_) => "kept".into(),
+        Err(why) => why.to_string(),
     }
 }
 
-fn measure(pace: Pace, folder: &Path) -> io::Result<()> {
-    let folder = folder.canonicalize()?;
+fn head(table: &mut Table, asked: &Asked, place: &Place, scratch: &Path) {
+    let (opened, kind) = match place.is_disk() {
+        true => ("VOUCHED", "disk"),
+        false => ("KILL", "memory"),
+    };
+    table.fact("machine", machine::describe());
+    table.fact("load", machine::load());
+    table.fact("place", kind.into());
+    table.fact("files", place.describe());
+    let answer = promise(scratch);
+    table.fact(
+        "promise",
+        format!("lanes are opened {opened}; ASKED answers: {answer}"),
+    );
+    let (lmdb, sqlite) = (lmdb::version(), sqlite::version());
+    table.fact("peers", format!("LMDB {lmdb}, SQLite {sqlite}"));
+    table.fact(
+        "figures",
+        format!(
+            "the lowest of {} rounds, which take the stores in turn; \
+             a round is the median of {} samples or more, of opens {}",
+            asked.pace.rounds,
+            asked.pace.samples,
+            asked.pace.opens()
+        ),
+    );
+}
+
+/// Says of which file or folder an error is.
+fn named<T>(path: &Path, outcome: io::Result<T>) -> Result<T, String> {
+    outcome.map_err(|e| format!("{}: {e}", path.display()))
+}
+
+fn measure(asked: &Asked) -> io::Result<Table> {
+    let folder = asked.folder.canonicalize()?;
     let scratch = Scratch::new(&folder)?;
-    let direct = card::direct_known(&scratch.0);
-    println!("{}", machine::describe());
-    println!("{}", machine::files(&folder, direct));
-    Report::new(&scratch.0, direct, pace).print();
-    Ok(())
+    let place = Place::of(&folder)?;
+    let promise = match place.is_disk() {
+        true => Promise::Vouched,
+        false => Promise::Kill,
+    };
+    let rounds = Rounds {
+        clock: Clock::new(),
+        pace: asked.pace,
+    };
+    let mut table = Table::new();
+    head(&mut table, asked, &place, &scratch.0);
+    Files::new(&scratch.0, place.is_disk(), promise).measure(&rounds, &mut table);
+    println!("\nThe library's own time: its card is in memory, without a file.");
+    OwnTime::new(&rounds).measure(&rounds, &mut table);
+    print!("\n{}", include_str!("notes.txt"));
+    Ok(table)
+}
+
+/// Measures, and saves the figures in a file that is seen to be writable before.
+fn run(asked: &Asked) -> Result<(), String> {
+    let measured = || named(&asked.folder, measure(asked));
+    match &asked.save {
+        Some(file) => {
+            named(file, fs::write(file, ""))?;
+            named(file, fs::write(file, measured()?.run().to_string()))
+        }
+        None => measured().map(|_| ()),
+    }
 }
 
 fn main() -> ExitCode {
-    let Some((pace, folder)) = asked() else {
-        eprintln!("usage: bench/run [--quick] [FOLDER]");
+    let Some(asked) = asked() else {
+        eprintln!("usage: bench/run [--quick] [--save FILE] [FOLDER]");
         return ExitCode::from(2);
     };
-    match measure(pace, &folder) {
+    match run(&asked) {
         Ok(()) => ExitCode::SUCCESS,
-        Err(e) => {
-            eprintln!("bench/run: {}: {e}", folder.display());
+        Err(why) => {
+            eprintln!("bench/run: {why}");
             ExitCode::from(2)
         }
     }

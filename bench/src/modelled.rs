@@ -1,8 +1,7 @@
 //! The plain model, which has its card in memory of its own.
 
-use crate::controller::{
-    card_length, Answer, Calls, AREA, FIRST, FRESH, MEMORY, UNWRITTEN, WRITTEN,
-};
+use crate::card::{self, AREA, FRAMES};
+use crate::controller::{Answer, Calls};
 use crate::store::Page;
 use lane::BLOCK;
 use model::{Kind, Lent, Model};
@@ -16,12 +15,12 @@ impl Modelled {
     /// Formats a card and starts.
     pub fn new() -> Modelled {
         let lent = Lent {
-            card: card_length(),
-            memory: MEMORY,
+            card: card::length(),
+            memory: FRAMES * BLOCK,
         };
         let mut model = Model::new(vec![0; lent.card]);
         model
-            .format(lent.card, AREA, &[FIRST, WRITTEN, FRESH, UNWRITTEN])
+            .format(lent.card, AREA, &card::numbers())
             .expect("format");
         model.start(lent).expect("start");
         Modelled { model, lent }
@@ -29,8 +28,8 @@ impl Modelled {
 }
 
 impl Calls for Modelled {
-    fn card(&mut self) -> &mut [u8] {
-        &mut self.model.card
+    fn card(&self) -> &[u8] {
+        &self.model.card
     }
 
     fn start(&mut self) -> Answer {
@@ -58,11 +57,11 @@ impl Calls for Modelled {
         self.model.snapshot(self.lent)
     }
 
-    fn page_out(&mut self) -> Result<usize, u32> {
-        self.model.page_out(self.lent)
+    fn page_out(&mut self) -> Answer {
+        self.model.page_out(self.lent).map(|_| ())
     }
 
-    fn advance(&mut self) -> Result<(Kind, usize), u32> {
-        self.model.advance(self.lent)
+    fn advance(&mut self) -> Result<Kind, u32> {
+        self.model.advance(self.lent).map(|(kind, _)| kind)
     }
 }

@@ -1,27 +1,14 @@
-//! The proved library, as a Rust program has it, over a card that O_DIRECT can read into.
+//! The proved library, as a Rust program has it that lends it a card in memory.
 
-use crate::controller::{
-    card_length, Answer, Calls, AREA, FIRST, FRESH, MEMORY, UNWRITTEN, WRITTEN,
-};
-use crate::map::Map;
+use crate::card::{self, AREA, FRAMES, RANGES};
+use crate::controller::{Answer, Calls};
 use crate::store::Page;
-use lane::{Key, Range, Refusal, Report, Store};
+use lane::{Key, Refusal, Report, Store, BLOCK};
 use model::Kind;
-
-const RANGES: [Range; 2] = [
-    Range {
-        first: FIRST,
-        pages: WRITTEN,
-    },
-    Range {
-        first: FRESH,
-        pages: UNWRITTEN,
-    },
-];
 
 pub struct Proved {
     store: Store,
-    card: Map,
+    card: Vec<u8>,
     memory: Vec<u8>,
 }
 
@@ -32,8 +19,8 @@ fn key(oid: u32) -> Key {
 impl Proved {
     /// Formats a card and starts.
     pub fn new() -> Proved {
-        let mut card = Map::new(card_length());
-        let memory = vec![0; MEMORY];
+        let mut card = vec![0; card::length()];
+        let memory = vec![0; FRAMES * BLOCK];
         lane::format(&mut card, AREA, &RANGES).expect("format");
         let store = Store::start(&card, &memory).expect("start");
         Proved {
@@ -45,8 +32,8 @@ impl Proved {
 }
 
 impl Calls for Proved {
-    fn card(&mut self) -> &mut [u8] {
-        &mut self.card
+    fn card(&self) -> &[u8] {
+        &self.card
     }
 
     fn start(&mut self) -> Answer {
@@ -83,22 +70,20 @@ impl Calls for Proved {
             .map_err(Refusal::number)
     }
 
-    fn page_out(&mut self) -> Result<usize, u32> {
-        self.store
-            .page_out(&mut self.card, &self.memory)
-            .map(|report| report.block().expect("a block"))
-            .map_err(Refusal::number)
+    fn page_out(&mut self) -> Answer {
+        let written = self.store.page_out(&mut self.card, &self.memory);
+        written.map(|_| ()).map_err(Refusal::number)
     }
 
-    fn advance(&mut self) -> Result<(Kind, usize), u32> {
+    fn advance(&mut self) -> Result<Kind, u32> {
         let written = self.store.advance(&mut self.card, &self.memory);
         written.map_err(Refusal::number).map(|w| match w {
-            Report::P(block) => (Kind::P, block),
-            Report::D(block) => (Kind::D, block),
-            Report::T(block) => (Kind::T, block),
-            Report::M(block) => (Kind::M, block),
-            Report::H(block) => (Kind::H, block),
-            Report::F(block) => (Kind::F, block),
+            Report::P(_) => Kind::P,
+            Report::D(_) => Kind::D,
+            Report::T(_) => Kind::T,
+            Report::M(_) => Kind::M,
+            Report::H(_) => Kind::H,
+            Report::F(_) => Kind::F,
             other => unreachable!("the model knows no {other}"),
         })
     }

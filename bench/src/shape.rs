@@ -1,9 +1,9 @@
 //! Lane stores with a given number of entries in their directories.
 
-use crate::controller::{Controller, MEMORY};
+use crate::card::FRAMES;
+use crate::controller::Controller;
 use crate::store::{Page, PageStore};
 use crate::subject::{spread, Subject};
-use lane::BLOCK;
 
 /// Entries in the committed, pending and current directories.
 #[derive(Clone, Copy)]
@@ -46,7 +46,7 @@ impl Shape {
     /// The i-th page, in `spread`'s order, of those that wait in the current generation, and round
     /// again.
     pub fn waiting(&self, i: usize) -> usize {
-        let waiting = self.current.min(MEMORY / BLOCK);
+        let waiting = self.current.min(FRAMES);
         self.total() - waiting + i % waiting
     }
 
@@ -60,25 +60,25 @@ impl Shape {
     }
 
     /// Fills the directories of a lane store.
-    pub fn fill<'a>(&self, subject: &'a mut Subject) -> Option<&'a mut Controller> {
-        let pages = same_bytes(subject, 0, self.total());
+    pub fn fill<'a>(&self, own: &'a mut Subject<Controller>) -> &'a mut Controller {
+        let pages = same_bytes(own, 0, self.total());
         let (committed, changed) = pages.split_at(self.committed);
         let (pending, current) = changed.split_at(self.pending);
-        let lane = subject.store.lane()?;
+        let lane = &mut *own.store;
         lane.abort();
         lane.change(committed);
         lane.commit();
         lane.change(pending);
         lane.calls.snapshot().expect("snapshot");
         lane.change(current);
-        Some(lane)
+        lane
     }
 }
 
 /// The pages from..to of `spread`'s order with the bytes that they have: writing them changes
 /// frames and no page.
-pub fn same_bytes(subject: &Subject, from: usize, to: usize) -> Vec<(u32, Page)> {
+pub fn same_bytes(own: &Subject<Controller>, from: usize, to: usize) -> Vec<(u32, Page)> {
     (from..to)
-        .map(|i| (spread(i), subject.page(spread(i))))
+        .map(|i| (spread(i), own.page(spread(i))))
         .collect()
 }

@@ -2,7 +2,7 @@
 
 use crate::store::{Page, PageStore};
 use std::ffi::{c_char, c_int, c_void, CStr, CString};
-use std::path::Path;
+use std::path::{Path, PathBuf};
 use std::ptr::{null, null_mut};
 
 type Database = *mut c_void;
@@ -12,11 +12,13 @@ const OK: c_int = 0;
 const ROW: c_int = 100;
 const DONE: c_int = 101;
 const PASSIVE: c_int = 0;
+const NO_CHECKPOINT_ON_CLOSE: c_int = 1006;
 
 #[link(name = "sqlite3")]
 extern "C" {
     fn sqlite3_open(name: *const c_char, db: *mut Database) -> c_int;
     fn sqlite3_close(db: Database) -> c_int;
+    fn sqlite3_db_config(db: Database, what: c_int, ...) -> c_int;
     fn sqlite3_exec(
         db: Database,
         sql: *const c_char,
@@ -68,10 +70,10 @@ struct Connection {
     update: Statement,
     begin: Statement,
     commit: Statement,
-    rollback: Statement,
 }
 
 pub struct Sqlite {
+    path: PathBuf,
     name: CString,
     journal: Journal,
     connection: Option<Connection>,
@@ -94,7 +96,6 @@ impl Connection {
             update: prepare(db, "UPDATE page SET bytes = ?2 WHERE oid = ?1"),
             begin: prepare(db, "BEGIN IMMEDIATE"),
             commit: prepare(db, "COMMIT"),
-            rollback: prepare(db, "ROLLBACK"),
         }
     }
 
@@ -134,17 +135,15 @@ impl Connection {
 }
 
 impl Drop for Connection {
+    /// Leaves the files as a kill does: a log is not brought home, nor removed.
     fn drop(&mut self) {
-        let statements = [
-            self.select,
-            self.update,
-            self.begin,
-            self.commit,
-            self.rollback,
-        ];
+        let (yes, no_answer) = (1 as c_int, null_mut::<c_int>());
+        // SAFETY: the database is open; the words are those that this setting takes.
+        let code = unsafe { sqlite3_db_config(self.db, NO_CHECKPOINT_ON_CLOSE, yes, no_answer) };
+        assert_eq!(code, OK, "sqlite3_db_config");
         // SAFETY: each is open and not used again, the statements before their database.
         unsafe {
-            for s in statements {
+            for s in [self.select, self.update, self.begin, self.commit] {
                 sqlite3_finalize(s);
             }
             sqlite3_close(self.db);
@@ -213,6 +212,7 @@ impl Sqlite {
         // SAFETY: a statement of an open database, not used again.
         unsafe { sqlite3_finalize(insert) };
         Sqlite {
+            path: path.to_path_buf(),
             name,
             journal,
             connection: Some(c),
@@ -256,13 +256,8 @@ impl PageStore for Sqlite {
         c.run(c.commit);
     }
 
-    fn abort(&mut self) {
-        let c = self.connection();
-        c.run(c.rollback);
-    }
-
     /// A checkpoint of the WAL. With a rollback journal a commit's pages are home.
-    fn bring_home(&mut self) {
+    fn keep_up(&mut self) {
         if self.journal == Journal::Wal {
             let c = self.connection();
             // SAFETY: the database is open, and the rest may be null.
@@ -278,5 +273,13 @@ impl PageStore for Sqlite {
 
     fn start(&mut self) {
         self.connection = Some(Connection::open(&self.name));
+    }
+
+    fn files(&self) -> Vec<PathBuf> {
+        let names = ["", "-wal", "-shm", "-journal"].map(|end| {
+            let name = format!("{}{end}", self.path.display());
+            PathBuf::from(name)
+        });
+        names.into_iter().filter(|name| name.exists()).collect()
     }
 }

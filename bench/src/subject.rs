@@ -1,16 +1,25 @@
 //! A store that is measured, and what its pages must read.
 
-use crate::controller::{FIRST, WRITTEN};
-use crate::store::{Page, PageStore};
+use crate::card::{FIRST, MANY, WRITTEN};
+use crate::store::{bring_home, commit, Page, PageStore};
 use lane::BLOCK;
 
 /// Coprime to the number of pages, so that pages this far apart come round to all of them.
-pub const STRIDE: usize = 71;
+const STRIDE: usize = 71;
 
-pub struct Subject {
-    pub store: Box<dyn PageStore>,
+/// The pages of a commit: how many, and whether they are neighbours or far apart.
+#[derive(Clone, Copy)]
+pub struct Plan {
+    pub pages: usize,
+    pub neighbours: bool,
+}
+
+pub struct Subject<S: PageStore + ?Sized> {
+    pub store: Box<S>,
     versions: Vec<u32>,
     turn: usize,
+    /// Pages that were to be committed since they were last read back.
+    unread: Vec<u32>,
 }
 
 /// The i-th page of an order that goes through all of them, far apart.
@@ -40,12 +49,13 @@ pub fn first_pages() -> Vec<(u32, Page)> {
         .collect()
 }
 
-impl Subject {
-    pub fn new(store: impl PageStore + 'static) -> Subject {
+impl<S: PageStore + ?Sized> Subject<S> {
+    pub fn new(store: Box<S>) -> Subject<S> {
         Subject {
-            store: Box::new(store),
+            store,
             versions: vec![0; WRITTEN as usize],
             turn: 0,
+            unread: Vec::new(),
         }
     }
 
@@ -54,42 +64,55 @@ impl Subject {
         page_bytes(oid, self.versions[(oid - FIRST) as usize])
     }
 
-    /// New bytes for the next n pages, far apart or neighbours; the caller commits them.
-    pub fn next_batch(&mut self, n: usize, neighbours: bool) -> Vec<(u32, Page)> {
-        let order = if neighbours { neighbour } else { spread };
+    /// New bytes for the next pages of a plan; the caller commits them.
+    pub fn next_batch(&mut self, plan: Plan) -> Vec<(u32, Page)> {
+        let order = if plan.neighbours { neighbour } else { spread };
         let from = self.turn;
-        self.turn += n;
-        (from..from + n)
-            .map(|i| {
-                let oid = order(i);
-                self.versions[(oid - FIRST) as usize] += 1;
-                (oid, self.page(oid))
-            })
-            .collect()
+        self.turn += plan.pages;
+        (from..self.turn).map(|i| self.changed(order(i))).collect()
+    }
+
+    fn changed(&mut self, oid: u32) -> (u32, Page) {
+        self.versions[(oid - FIRST) as usize] += 1;
+        self.unread.push(oid);
+        (oid, self.page(oid))
+    }
+
+    /// Brings a store that was started into use: every page is written since then, and home.
+    pub fn bring_into_use(&mut self) {
+        let oids: Vec<u32> = (FIRST..FIRST + WRITTEN).collect();
+        for some in oids.chunks(MANY) {
+            let batch: Vec<_> = some.iter().map(|oid| self.changed(*oid)).collect();
+            commit(&mut *self.store, &batch);
+        }
+        bring_home(&mut *self.store);
     }
 
     /// Pages read as they were last committed, by the store as it is and after a restart.
-    pub fn verify(&mut self, oids: &[u32]) {
-        self.compare(oids);
+    pub fn verify(&mut self) {
+        self.unread.sort_unstable();
+        self.unread.dedup();
+        self.compare();
         self.restart();
-        self.compare(oids);
+        self.compare();
+        self.unread.clear();
     }
 
     pub fn verify_all(&mut self) {
-        let oids: Vec<u32> = (FIRST..FIRST + WRITTEN).collect();
-        self.verify(&oids);
+        self.unread = (FIRST..FIRST + WRITTEN).collect();
+        self.verify();
     }
 
     /// Drops what is not committed, and leaves nothing of the last commit to do.
-    pub fn restart(&mut self) {
+    fn restart(&mut self) {
         self.store.stop();
         self.store.start();
-        self.store.settle();
+        bring_home(&mut *self.store);
     }
 
-    fn compare(&mut self, oids: &[u32]) {
+    fn compare(&mut self) {
         let mut page = [0; BLOCK];
-        for oid in oids {
+        for oid in &self.unread {
             self.store.read(*oid, &mut page);
             assert!(page == self.page(*oid), "page {oid} reads other bytes");
         }

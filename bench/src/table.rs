@@ -1,79 +1,97 @@
-//! The table: a row for each measure, a column for each store, and the proved library's ratios.
+//! The table: printed row by row as it is made, and kept to be saved.
 
-pub const COLUMNS: [&str; 5] = ["proved", "model", "SQLite WAL", "SQLite DEL", "LMDB"];
-const LABEL: usize = 41;
+use saved::{grouped, Group, Row, Run, Unit};
 
-pub type Cells = [Option<f64>; 5];
+const LABEL: usize = 36;
 
-/// Digits in groups of three.
-fn grouped(n: f64) -> String {
-    let digits = format!("{n:.0}");
-    let mut out = String::new();
-    for (i, c) in digits.chars().enumerate() {
-        if i > 0 && (digits.len() - i) % 3 == 0 {
-            out.push(',');
-        }
-        out.push(c);
-    }
-    out
+pub type Cells = Vec<Option<f64>>;
+
+/// What stands beside the figures of a row.
+pub type Ratio = Option<f64>;
+
+pub struct Table {
+    run: Run,
 }
 
-fn number(n: f64) -> String {
-    if n < 10.0 {
-        format!("{n:.1}")
-    } else {
+fn short(n: f64) -> String {
+    match n {
+        n if n < 10.0 => format!("{n:.2}"),
+        n if n < 100.0 => format!("{n:.1}"),
+        n => grouped(n),
+    }
+}
+
+/// A figure of which whole ones are told as such.
+fn counted(n: f64) -> String {
+    if n.fract() == 0.0 {
         grouped(n)
+    } else {
+        short(n)
     }
 }
 
-fn ratio(x: Option<f64>, to: Option<f64>) -> String {
-    match (x, to) {
-        (Some(a), Some(b)) if a < 0.1 * b => format!("{:.4}", a / b),
-        (Some(a), Some(b)) if a < 100.0 * b => format!("{:.2}", a / b),
-        (Some(a), Some(b)) => grouped(a / b),
-        _ => "-".into(),
+fn text(unit: Unit, n: f64) -> String {
+    match unit {
+        Unit::Microseconds => short(n / 1000.0),
+        Unit::Nanoseconds => short(n),
+        Unit::Count => counted(n),
+        Unit::Bytes => grouped(n),
     }
 }
 
-fn line(label: &str, cells: &[String], ratios: [&str; 3]) {
+fn line(label: &str, cells: &[String], ratios: &[String]) {
     // A space before each, so that a slow disk's figures stay apart.
     let columns: String = cells.iter().map(|c| format!(" {c:>10}")).collect();
-    let ratios = ratios.map(|r| format!(" {r:>7}")).concat();
+    let ratios: String = ratios.iter().map(|r| format!(" {r:>9}")).collect();
     let text = format!("{label:<LABEL$}{columns}{ratios}");
     println!("{}", text.trim_end());
 }
 
-pub fn heading(title: &str) {
-    let names: Vec<String> = COLUMNS.iter().map(|c| c.to_string()).collect();
-    println!();
-    line(title, &names, ["/WAL", "/LMDB", "/floor"]);
-}
+impl Table {
+    pub fn new() -> Table {
+        Table {
+            run: Run::default(),
+        }
+    }
 
-/// A row of nanoseconds; `floor` is what copying the row's pages takes.
-pub fn nanoseconds(label: &str, cells: &Cells, floor: f64) {
-    let [wal, lmdb] = to_peers(cells);
-    let to_floor = ratio(cells[0], Some(floor));
-    row(label, cells, number, [&wal, &lmdb, &to_floor]);
-}
+    /// A line of the head.
+    pub fn fact(&mut self, name: &str, text: String) {
+        println!("{name:<9}{text}");
+        self.run.facts.push((name.to_string(), text));
+    }
 
-pub fn bytes(label: &str, cells: &Cells) {
-    let [wal, lmdb] = to_peers(cells);
-    row(label, cells, grouped, [&wal, &lmdb, ""]);
-}
+    /// The head of some rows.
+    pub fn group(&mut self, name: &str, unit: Unit, columns: &[&str], ratios: &[&str]) {
+        let names = |some: &[&str]| some.iter().map(|c| c.to_string()).collect::<Vec<_>>();
+        let columns = names(columns);
+        println!();
+        line(name, &columns, &names(ratios));
+        self.run.groups.push(Group {
+            name: name.to_string(),
+            unit,
+            columns,
+            rows: Vec::new(),
+        });
+    }
 
-pub fn factors(label: &str, cells: &Cells) {
-    row(label, cells, number, [""; 3]);
-}
+    pub fn row(&mut self, label: &str, cells: Cells, ratios: &[Ratio]) {
+        let group = self.run.groups.last_mut().expect("a group");
+        let or_none = |text: Option<String>| text.unwrap_or("-".into());
+        let texts = cells
+            .iter()
+            .map(|c| or_none(c.map(|n| text(group.unit, n))));
+        let ratios = ratios.iter().map(|r| or_none(r.map(short)));
+        line(
+            label,
+            &texts.collect::<Vec<_>>(),
+            &ratios.collect::<Vec<_>>(),
+        );
+        let label = label.to_string();
+        group.rows.push(Row { label, cells });
+    }
 
-pub fn counts(label: &str, cells: &Cells) {
-    row(label, cells, grouped, [""; 3]);
-}
-
-fn to_peers(cells: &Cells) -> [String; 2] {
-    [cells[2], cells[4]].map(|peer| ratio(cells[0], peer))
-}
-
-fn row(label: &str, cells: &Cells, text: fn(f64) -> String, ratios: [&str; 3]) {
-    let texts = cells.map(|c| c.map_or("-".into(), text));
-    line(label, &texts, ratios);
+    /// All that was printed.
+    pub fn run(&self) -> &Run {
+        &self.run
+    }
 }
