@@ -11,7 +11,7 @@ const SOURCE: &str = "../../c/lane_file.c";
 const HEADERS: &str = "../../include";
 
 /// Functions of the system, which `src/shim.rs` defines with `crash_` before their names.
-const SYSTEM: [&str; 17] = [
+const SYSTEM: [&str; 19] = [
     "close",
     "fdatasync",
     "flock",
@@ -27,6 +27,8 @@ const SYSTEM: [&str; 17] = [
     "posix_fadvise",
     "pread",
     "pwrite",
+    "stat",
+    "statx",
     "syscall",
     "unlink",
 ];
@@ -100,7 +102,7 @@ fn changed(source: &str, slip: &Slip) -> Result<String, String> {
 fn object(out: &Path, source: &Path, name: &str, level: &str) -> Result<PathBuf, String> {
     let object = out.join(format!("{name}.o"));
     let mut gcc = Command::new("gcc");
-    gcc.args(["-std=c11", level, "-fPIC", "-w", "-I", HEADERS, "-c"]);
+    gcc.args(["-std=c11", level, "-fPIE", "-w", "-I", HEADERS, "-c"]);
     run(gcc.arg(source).arg("-o").arg(&object))?;
     let mut objcopy = Command::new("objcopy");
     for symbol in symbols(&object, "--undefined-only")? {

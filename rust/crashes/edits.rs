@@ -1,5 +1,5 @@
 /// The slips: each is one line of the layer in C and what stands in its place.
-const SLIPS: [Slip; 30] = [
+const SLIPS: [Slip; 31] = [
     Slip {
         name: "no_flush_before_header",
         line: "return flush(lane);",
@@ -48,9 +48,9 @@ const SLIPS: [Slip; 30] = [
     },
     Slip {
         name: "misplaced_one",
-        line: "return write_all(d->fd, card + at, runs->blocks * LANE_BLOCK, at);",
-        instead: "return write_all(d->fd, card + at, runs->blocks * LANE_BLOCK, \
-                                   at > 512 ? at - 512 : at);",
+        line: "error = write_all(d->fd, card + at, runs[i].blocks * LANE_BLOCK, at);",
+        instead: "error = write_all(d->fd, card + at, runs[i].blocks * LANE_BLOCK, \
+                                    at > 512 ? at - 512 : at);",
     },
     Slip {
         name: "misplaced_several",
@@ -92,8 +92,13 @@ const SLIPS: [Slip; 30] = [
     },
     Slip {
         name: "short_write_done",
-        line: "return (size_t)put == n ? 0 : EIO;",
-        instead: "return 0;",
+        line: "if (put >= 0 && (size_t)put == n)",
+        instead: "if (put >= 0)",
+    },
+    Slip {
+        name: "rest_of_write_done",
+        line: "return put < 0 ? reason() : EIO;",
+        instead: "return put < 0 ? reason() : 0;",
     },
     Slip {
         name: "short_completion_done",

@@ -43,6 +43,15 @@ impl InC {
             replace: i32::from(replace),
         }
     }
+
+    /// Is something there that a create must be asked to replace?
+    fn in_use(&self, drive: &Shared) -> bool {
+        let drive = drive.borrow();
+        match self.door {
+            Door::Path(setting) if setting.device => drive.bytes().iter().any(|byte| *byte != 0),
+            _ => !drive.bytes().is_empty(),
+        }
+    }
 }
 
 impl Layer for InC {
@@ -63,7 +72,7 @@ impl Layer for InC {
     fn create(&self, drive: &Shared, shape: &Shape) -> Result<Box<dyn Lane>, Fault> {
         let (calls, area, ranges) = (self.calls, shape.area, &shape.ranges);
         let there = !drive.borrow().bytes().is_empty();
-        let options = self.options(shape, there);
+        let options = self.options(shape, self.in_use(drive));
         let lane = match self.door {
             Door::Path(setting) => {
                 let named = Named::new(setting, drive, there);

@@ -7,6 +7,9 @@
 //!
 //! The layer in C is the object code that is shipped, over a system of this crate's own.
 
+#![deny(unsafe_code)]
+#![deny(clippy::undocumented_unsafe_blocks)]
+
 mod block;
 mod cuts;
 mod day;
@@ -20,6 +23,7 @@ mod recorded;
 #[path = "../../trials/src/rng.rs"]
 mod rng;
 mod shape;
+#[allow(unsafe_code)]
 mod shim;
 #[cfg(test)]
 mod slips;

@@ -56,6 +56,9 @@ pub struct Record {
     /// Has the operation that is to fail been met, and was the layer told?
     failed: bool,
     told: bool,
+    /// Where the rest of a write that was told to be short begins and ends: it may be asked for
+    /// once, to learn why.
+    rest: Option<(usize, usize)>,
     /// What was asked of the drive that no layer may ask.
     wrongs: Vec<String>,
 }
@@ -106,10 +109,10 @@ impl Record {
 
     /// Counts an operation, and says how it ends. Once a failure was told nothing may be written or
     /// flushed.
-    fn ask(&mut self, doing: Doing) -> Outcome {
+    fn ask(&mut self, doing: Doing, excused: bool) -> Outcome {
         let nth = self.asked[doing as usize];
         self.asked[doing as usize] += 1;
-        if self.told && doing != Doing::Read {
+        if self.told && doing != Doing::Read && !excused {
             self.wrong(format!("{doing:?} after the drive has failed"));
         }
         match self.plan {
@@ -118,6 +121,14 @@ impl Record {
                 Outcome::Failed(plan.how)
             }
             _ => Outcome::Done,
+        }
+    }
+
+    /// A write that is to be short has at least one byte less.
+    fn shortened(outcome: Outcome, length: usize) -> Outcome {
+        match outcome {
+            Outcome::Failed(How::Short(down)) => Outcome::Failed(How::Short(down.min(length - 1))),
+            outcome => outcome,
         }
     }
 
@@ -136,7 +147,7 @@ impl Record {
     }
 
     pub fn read(&mut self, at: usize, buffer: &mut [u8]) -> Outcome {
-        let outcome = self.ask(Doing::Read);
+        let outcome = self.ask(Doing::Read, false);
         match self.bytes.get(at..at + buffer.len()) {
             Some(bytes) => buffer.copy_from_slice(bytes),
             None => self.wrong(format!("a read of {} bytes at {at}", buffer.len())),
@@ -146,34 +157,39 @@ impl Record {
 
     pub fn write(&mut self, at: usize, bytes: &[u8]) -> Outcome {
         let outcome = self.begin_write(at, bytes);
+        if let Outcome::Failed(How::Short(down)) = outcome {
+            self.rest = Some((at + down, at + bytes.len()));
+        }
         self.tell(outcome)
     }
 
     /// A write of whole blocks that is under way from now on; how it ends is told later. A drive
     /// does not grow.
     pub fn begin_write(&mut self, at: usize, bytes: &[u8]) -> Outcome {
-        let outcome = self.ask(Doing::Write);
+        let rest = self.rest.take() == Some((at, at + bytes.len()));
+        let outcome = self.ask(Doing::Write, rest);
         let whole = at.is_multiple_of(BLOCK) && bytes.len().is_multiple_of(BLOCK);
         if !whole || bytes.is_empty() || at + bytes.len() > self.bytes.len() {
             self.wrong(format!("a write of {} bytes at {at}", bytes.len()));
             return outcome;
         }
+        let outcome = Record::shortened(outcome, bytes.len());
         let down = match outcome {
             Outcome::Done => bytes.len(),
-            Outcome::Failed(How::Short(down)) => down.min(bytes.len()),
+            Outcome::Failed(How::Short(down)) => down,
             Outcome::Failed(_) => 0,
         };
         self.bytes[at..at + down].copy_from_slice(&bytes[..down]);
         self.events.push(Event::Write {
             first: at / BLOCK,
             bytes: bytes.to_vec(),
-            done: outcome == Outcome::Done,
+            done: outcome == Outcome::Done && !rest,
         });
         outcome
     }
 
     pub fn flush(&mut self) -> Outcome {
-        let outcome = self.ask(Doing::Flush);
+        let outcome = self.ask(Doing::Flush, false);
         let done = outcome == Outcome::Done;
         self.events.push(Event::Flush { done });
         self.tell(outcome)

@@ -8,10 +8,11 @@
 
 use crate::layer::{self, Doing, Fault};
 use crate::recorded::{Outcome, Shared};
-use crate::system::{self, Completion, Named, Request, Told, EIO};
+use crate::system::{self, Completion, Named, Request, Status, Told, EIO, ENOSYS};
 use lane::{c, Range, Report, BLOCK};
 use std::alloc::{alloc, dealloc, Layout};
 use std::ffi::{c_char, c_int, c_long, c_uint, c_void, CStr, CString};
+use std::mem::offset_of;
 use std::{ptr, slice};
 
 /// A lane, whose form is the layer's.
@@ -453,11 +454,23 @@ struct Statfs {
     rest: [u64; 14],
 }
 
+/// The kernel's `struct statx`, as far as it is asked for.
+#[repr(C)]
+struct Statx {
+    told: u32,
+    rest: [u32; 37],
+    memory: u32,
+    least: u32,
+    spare: [u32; 24],
+}
+
 const _: () = {
     assert!(size_of::<Iocb>() == 64);
     assert!(size_of::<IoEvent>() == 32);
     assert!(size_of::<Stat>() == 144);
     assert!(size_of::<Statfs>() == 120);
+    assert!(size_of::<Statx>() == 256);
+    assert!(offset_of!(Statx, least) == 156);
 };
 
 #[no_mangle]
@@ -526,31 +539,67 @@ extern "C" fn crash_lseek(file: c_int, _by: i64, _from: c_int) -> i64 {
     answered(status.map(|status| status.length as i64))
 }
 
-#[no_mangle]
-unsafe extern "C" fn crash_fstat(file: c_int, found: *mut Stat) -> c_int {
+/// What the system tells of a file or device.
+fn stat(status: Status) -> Stat {
     const FILE: u32 = 0o100000;
     const DEVICE: u32 = 0o060000;
     /// The device 8:1.
     const NUMBERS: u64 = 0x801;
-    let told = system::with(|system| system.status(file)).map(|status| {
-        let stat = Stat {
-            device: NUMBERS,
-            inode: 1,
-            links: 1,
-            mode: if status.device { DEVICE } else { FILE },
-            owners: [0; 3],
-            is_device: NUMBERS,
-            length: if status.device {
-                0
-            } else {
-                status.length as i64
-            },
-            rest: [0; 11],
+    Stat {
+        device: NUMBERS,
+        inode: 1,
+        links: 1,
+        mode: if status.device { DEVICE } else { FILE },
+        owners: [0; 3],
+        is_device: NUMBERS,
+        length: if status.device {
+            0
+        } else {
+            status.length as i64
+        },
+        rest: [0; 11],
+    }
+}
+
+#[no_mangle]
+unsafe extern "C" fn crash_fstat(file: c_int, found: *mut Stat) -> c_int {
+    let status = system::with(|system| system.status(file));
+    // SAFETY: the layer's struct, of the same size.
+    zero(status.map(|status| unsafe { found.write(stat(status)) }))
+}
+
+#[no_mangle]
+unsafe extern "C" fn crash_stat(path: *const c_char, found: *mut Stat) -> c_int {
+    // SAFETY: a string that ends with a zero.
+    let path = unsafe { CStr::from_ptr(path) };
+    let path = path.to_str().expect("a path of this crate");
+    let status = system::with(|system| system.status_of(path));
+    // SAFETY: the layer's struct, of the same size.
+    zero(status.map(|status| unsafe { found.write(stat(status)) }))
+}
+
+/// The layer asks for the least block alone, of a file that is open.
+#[no_mangle]
+unsafe extern "C" fn crash_statx(
+    file: c_int,
+    _path: *const c_char,
+    _flags: c_int,
+    _mask: c_uint,
+    found: *mut Statx,
+) -> c_int {
+    const LEAST_BLOCK: u32 = 0x2000;
+    let least = system::with(|system| system.least_block(file)).map(|least| {
+        let statx = Statx {
+            told: LEAST_BLOCK,
+            rest: [0; 37],
+            memory: least,
+            least,
+            spare: [0; 24],
         };
         // SAFETY: the layer's struct, of the same size.
-        unsafe { found.write(stat) };
+        unsafe { found.write(statx) };
     });
-    zero(told)
+    zero(least)
 }
 
 #[no_mangle]
@@ -598,6 +647,7 @@ unsafe extern "C" fn crash_mmap(
             let memory = alloc(pages(n));
             assert!(!memory.is_null());
             ptr::copy_nonoverlapping(bytes.as_ptr(), memory, n);
+            system::with(|system| system.mapped(memory as usize, n));
             memory as isize
         }
     });
@@ -606,7 +656,8 @@ unsafe extern "C" fn crash_mmap(
 
 #[no_mangle]
 unsafe extern "C" fn crash_munmap(at: *mut c_void, n: usize) -> c_int {
-    // SAFETY: memory that crash_mmap gave for the same n.
+    assert!(system::with(|system| system.unmapped(at as usize, n)));
+    // SAFETY: memory that crash_mmap gave for the same n, and that is not given up yet.
     unsafe { dealloc(at.cast(), pages(n)) };
     0
 }
@@ -620,7 +671,6 @@ unsafe extern "C" fn crash_syscall(
     c: usize,
     d: usize,
 ) -> c_long {
-    const ENOSYS: i32 = 38;
     let told = match number {
         // SAFETY: the second argument is where the context is to stand.
         206 => system::with(|system| system.aio_begin())

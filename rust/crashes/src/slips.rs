@@ -130,6 +130,7 @@ slips! {
     c_failed_write_done: by_failures, in_c(&shim::FAILED_WRITE_DONE), "the drive fails, and";
     c_failed_flush_done: by_failures, in_c(&shim::FAILED_FLUSH_DONE), "the drive fails, and";
     c_short_write_done: by_failures, in_c(&shim::SHORT_WRITE_DONE), "has failed";
+    c_rest_of_write_done: by_failures, in_c(&shim::REST_OF_WRITE_DONE), "has failed";
     c_short_completion_done: by_failures, in_c(&shim::SHORT_COMPLETION_DONE), "has failed";
     c_failed_completion_done: by_failures, in_c(&shim::FAILED_COMPLETION_DONE), "has failed";
     c_refused_submit_done: by_failures, in_c(&shim::REFUSED_SUBMIT_DONE), "has failed";

@@ -20,6 +20,7 @@ const EBADF: i32 = 9;
 const EEXIST: i32 = 17;
 const ENODEV: i32 = 19;
 const EINVAL: i32 = 22;
+pub const ENOSYS: i32 = 38;
 const O_CREAT: i32 = 0o100;
 const O_EXCL: i32 = 0o200;
 const O_DIRECT: i32 = 0o40000;
@@ -44,6 +45,8 @@ pub struct Setting {
     pub no_mmap: bool,
     /// Reads give half of what is asked for, where that is whole blocks.
     pub short_reads: bool,
+    /// Does it tell which blocks go past the page cache?
+    pub tells_blocks: bool,
 }
 
 enum Open {
@@ -75,6 +78,8 @@ pub struct System {
     places: BTreeMap<String, Place>,
     open: BTreeMap<i32, Open>,
     contexts: BTreeMap<u64, Vec<Flight>>,
+    /// Where mappings begin, and their lengths.
+    mappings: BTreeMap<usize, usize>,
     /// Numbers that were given to files, contexts and paths.
     given: i32,
     /// Writes that were begun while others were under way.
@@ -127,6 +132,7 @@ impl System {
             places: BTreeMap::new(),
             open: BTreeMap::new(),
             contexts: BTreeMap::new(),
+            mappings: BTreeMap::new(),
             given: FIRST_FILE,
             together: 0,
             rng: Rng::new(1),
@@ -157,10 +163,10 @@ impl System {
         path
     }
 
-    /// Files and contexts that are open, and writes that are under way.
+    /// Files, contexts and mappings that are left.
     #[cfg(test)]
     pub fn held(&self) -> usize {
-        self.open.len() + self.contexts.len() + self.in_flight()
+        self.open.len() + self.contexts.len() + self.mappings.len()
     }
 
     pub fn open(&mut self, path: &str, flags: i32) -> Told<i32> {
@@ -234,9 +240,24 @@ impl System {
     }
 
     pub fn status(&self, file: i32) -> Told<Status> {
-        let length = self.card(file)?.borrow().bytes().len();
+        let (path, _) = self.path(file)?;
+        self.status_of(&path)
+    }
+
+    pub fn status_of(&self, path: &str) -> Told<Status> {
+        let there = self.places.get(path).filter(|place| place.exists);
+        let length = there.ok_or(ENOENT)?.record.borrow().bytes().len();
         let device = self.setting.device;
         Ok(Status { device, length })
+    }
+
+    /// The least length that goes past the page cache.
+    pub fn least_block(&self, file: i32) -> Told<u32> {
+        self.path(file)?;
+        match self.setting.tells_blocks {
+            true => Ok(512),
+            false => Err(ENOSYS),
+        }
     }
 
     /// Past the page cache whole blocks go to and from aligned memory alone.
@@ -306,6 +327,16 @@ impl System {
         }
     }
 
+    /// A mapping was made at this place.
+    pub fn mapped(&mut self, at: usize, length: usize) {
+        self.mappings.insert(at, length);
+    }
+
+    /// The mapping at this place is given up. Is it one of this length?
+    pub fn unmapped(&mut self, at: usize, length: usize) -> bool {
+        self.mappings.remove(&at) == Some(length)
+    }
+
     pub fn truncate(&mut self, file: i32, length: usize) -> Told<()> {
         self.card(file)?.borrow_mut().make_length(length);
         Ok(())
@@ -326,7 +357,7 @@ impl System {
 fn written(outcome: Outcome, length: usize) -> i64 {
     match outcome {
         Outcome::Done => length as i64,
-        Outcome::Failed(How::Short(down)) => down.min(length - 1) as i64,
+        Outcome::Failed(How::Short(down)) => down as i64,
         Outcome::Failed(How::Refused) => -i64::from(EAGAIN),
         Outcome::Failed(How::Error | How::Untold) => -i64::from(EIO),
     }

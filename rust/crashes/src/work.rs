@@ -153,11 +153,12 @@ const IN_RUST: [(Doing, How); 3] = [
     (Doing::Write, How::Error),
     (Doing::Flush, How::Error),
 ];
-pub const IN_C: [(Doing, How); 7] = [
+pub const IN_C: [(Doing, How); 8] = [
     (Doing::Read, How::Error),
     (Doing::Write, How::Error),
     (Doing::Flush, How::Error),
     (Doing::Write, How::Short(0)),
+    (Doing::Write, How::Short(512)),
     (Doing::Write, How::Short(700)),
     (Doing::Write, How::Refused),
     (Doing::Write, How::Untold),
@@ -174,11 +175,13 @@ fn in_c() -> [InC; 5] {
     };
     let short_reads = Setting {
         short_reads: true,
+        tells_blocks: true,
         ..plain
     };
     let device = Setting {
         device: true,
         no_mmap: true,
+        tells_blocks: true,
         ..plain
     };
     let ways = [
