@@ -3,7 +3,7 @@
 mod between;
 
 use crate::cuts::Effort;
-use crate::day::{tiny, ALL, FAR};
+use crate::day::{tiny, Letter, ALL, FAR};
 use crate::layer::Layer;
 use crate::linked::{Door, InC};
 use crate::ready::{Ready, Recorded};
@@ -32,6 +32,17 @@ fn by_cuts(layer: &dyn Layer) -> Result<(), Wrong> {
     work::short(&mut run, layer, &FAR, 5, &shape, plain(SHORT))?;
     work::short(&mut run, layer, &ALL, 4, &shape, plain(SHORT))?;
     (0..6).try_for_each(|seed| work::long(&mut run, layer, seed, plain(LONG)).map(|_| ()))
+}
+
+/// Every card is gone on with, and nothing is opened but after a cut.
+fn by_second_cuts(layer: &dyn Layer) -> Result<(), Wrong> {
+    let letters = [Letter::Write0, Letter::Commit];
+    let effort = Effort {
+        go_on: 1000,
+        ..plain(SHORT)
+    };
+    let shape = tiny(10, Room::Make);
+    work::short(&mut Run::new(1), layer, &letters, 2, &shape, effort)
 }
 
 fn by_failures(layer: &dyn Layer) -> Result<(), Wrong> {
@@ -101,6 +112,7 @@ slips! {
     rust_done_before_flush: by_cuts, in_rust(Slip::DoneEarly), "1 was answered done";
     rust_open_writes: by_cuts, in_rust(Slip::OpenWrites), "opening writes a block";
     rust_drop_writes: by_cuts, in_rust(Slip::DropWrites), "a lane that is dropped writes";
+    rust_slip_after_a_cut: by_second_cuts, in_rust(Slip::NoFlushBeforeOpened), "  cut: ";
     rust_goes_on_after_flush: by_failures, in_rust(Slip::FailedFlushDone), "has failed";
     rust_failed_write_done: by_failures, in_rust(Slip::FailedWriteDone), "the drive fails, and";
     rust_retried: by_failures, in_rust(Slip::Retried), "Write after the drive has failed";

@@ -206,3 +206,83 @@ fn mark(pages: &Pages) -> u64 {
     });
     marks.fold(0, |sum, mark| sum ^ mark)
 }
+
+#[cfg(test)]
+mod tests {
+    use super::*;
+
+    fn write(byte: u8) -> Call {
+        Call::Write {
+            page: 0,
+            at: 0,
+            bytes: vec![byte],
+        }
+    }
+
+    /// Makes calls that are done; the header of a commit is written in it.
+    fn made(tables: &mut Tables, room: Room, calls: &[Call]) {
+        for call in calls {
+            tables.begin(call, room);
+            if *call == Call::Commit {
+                tables.header(tables.newest());
+            }
+            tables.end(call, room, &Answer::Done).unwrap();
+        }
+    }
+
+    fn byte(tables: &Tables, commit: u32) -> u8 {
+        tables.shown(commit).unwrap().pages[0].bytes[0]
+    }
+
+    #[test]
+    fn a_commit_that_was_answered_done_is_not_taken_away() {
+        let mut tables = Tables::empty(1);
+        made(&mut tables, Room::Make, &[write(1), Call::Commit, write(2)]);
+        assert_eq!(byte(&tables, 1), 1);
+        assert!(tables.shown(0).is_err() && tables.shown(2).is_err());
+    }
+
+    #[test]
+    fn a_commit_that_is_under_way_may_be_found_or_not() {
+        let mut tables = Tables::empty(1);
+        made(&mut tables, Room::Make, &[write(1)]);
+        tables.begin(&Call::Commit, Room::Make);
+        assert_eq!((byte(&tables, 0), byte(&tables, 1)), (0, 1));
+    }
+
+    #[test]
+    fn an_open_forgets_later_snapshots() {
+        let mut tables = Tables::empty(1);
+        made(
+            &mut tables,
+            Room::Make,
+            &[write(1), Call::Snapshot, write(2)],
+        );
+        tables.opened(0).unwrap();
+        made(&mut tables, Room::Make, &[write(3), Call::Commit]);
+        assert_eq!(byte(&tables, 1), 3);
+    }
+
+    #[test]
+    fn a_change_may_commit_what_was_before_it() {
+        let mut tables = Tables::empty(1);
+        made(&mut tables, Room::Commit, &[write(1), write(2)]);
+        assert_eq!(tables.newest(), 0);
+        tables.begin(&write(3), Room::Commit);
+        tables.header(1);
+        tables.end(&write(3), Room::Commit, &Answer::Done).unwrap();
+        assert_eq!((byte(&tables, 1), tables.present[0].bytes[0]), (2, 3));
+    }
+
+    #[test]
+    fn an_answer_that_cannot_be_is_told() {
+        let refused = |number| Answer::Fault(Fault::Refused(number));
+        let mut tables = Tables::empty(1);
+        let mut end = |call: &Call, answer| tables.end(call, Room::Make, &answer);
+        assert!(end(&Call::Snapshot, Answer::Done).is_err());
+        assert!(end(&Call::Key(0), Answer::Count(1)).is_err());
+        assert!(end(&write(1), refused(12)).is_ok());
+        assert!(end(&write(1), refused(13)).is_err());
+        assert!(end(&Call::Commit, refused(17)).is_err());
+    }
+}

@@ -20,6 +20,8 @@ pub enum Kind {
 #[derive(Clone, Copy, Debug, PartialEq)]
 pub enum Slip {
     NoFlushBefore,
+    /// Only of a card that was opened, and not of one just created.
+    NoFlushBeforeOpened,
     NoFlushAfter,
     NoFlushAtOpen,
     /// The header goes down, then the flush that belongs before it.
@@ -58,6 +60,7 @@ const CREATE: usize = 3;
 pub struct Between {
     under: Recorded,
     slip: Slip,
+    created: bool,
     /// Flushes that the create still makes.
     creating: usize,
     /// Nothing was done since the card was opened, or created.
@@ -73,6 +76,7 @@ impl Between {
         Between {
             under: Recorded(record),
             slip,
+            created: false,
             creating: 0,
             fresh: true,
             header: false,
@@ -182,6 +186,7 @@ impl Drive for Between {
 
     fn write(&mut self, at: u64, bytes: &[u8]) -> io::Result<()> {
         if self.fresh && self.creating == 0 {
+            self.created = true;
             self.creating = CREATE;
         }
         if self.creating > 0 {
@@ -211,6 +216,7 @@ impl Drive for Between {
             | (Slip::NoFlushAfter, Place::AfterHeader)
             | (Slip::NoFlushAtOpen, Place::Open)
             | (Slip::CreateNotFlushed, Place::Create) => Ok(()),
+            (Slip::NoFlushBeforeOpened, Place::BeforeHeader) if !self.created => Ok(()),
             (Slip::HeaderFirst, Place::BeforeHeader) | (Slip::DoneEarly, Place::AfterHeader) => {
                 self.owed = true;
                 Ok(())
