@@ -62,8 +62,10 @@ fn pages(plan: Plan) -> String {
 fn label(work: Work) -> String {
     match work {
         Work::Commit(plan) | Work::InARow(plan) | Work::Settle(plan) => pages(plan),
-        Work::Open(_, Stop::Kill) => "after a kill".into(),
-        Work::Open(_, Stop::PowerCut) => "after a power cut".into(),
+        Work::Open(_, stop) | Work::First(_, stop) => match stop {
+            Stop::Kill => "after a kill".into(),
+            Stop::PowerCut => "after a power cut".into(),
+        },
     }
 }
 
@@ -75,6 +77,7 @@ fn full_label(work: Work) -> String {
         Work::InARow(_) => format!("{label}, in a row"),
         Work::Settle(_) => format!("settle, {label}"),
         Work::Open(..) => format!("open {label}"),
+        Work::First(..) => format!("first commit {label}"),
     }
 }
 
@@ -139,10 +142,14 @@ impl Files {
     }
 
     fn opens(&mut self, rounds: &Rounds, table: &mut Table) {
-        table.group(saved::OPEN, Unit::Microseconds, &COLUMNS, &RATIOS);
+        let (micros, n) = (Unit::Microseconds, rounds.pace.opens());
+        table.group(saved::OPEN, micros, &COLUMNS, &RATIOS);
         for stop in self.stops() {
-            let work = Work::Open(FAR_APART, *stop);
-            self.times(rounds, table, work, rounds.pace.opens());
+            self.times(rounds, table, Work::Open(FAR_APART, *stop), n);
+        }
+        table.group("us the first commit after it", micros, &COLUMNS, &RATIOS);
+        for stop in self.stops() {
+            self.times(rounds, table, Work::First(FAR_APART, *stop), n);
         }
     }
 

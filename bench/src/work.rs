@@ -4,7 +4,7 @@
 use crate::clock::{median, Clock};
 use crate::cold;
 use crate::counted::{self, Counts};
-use crate::store::{bring_home, commit, PageStore};
+use crate::store::{bring_home, commit, Page, PageStore};
 use crate::subject::{Plan, Subject};
 use lane::BLOCK;
 
@@ -21,6 +21,8 @@ pub enum Work {
     Settle(Plan),
     /// From a store that was stopped after a commit, which is not home, to the first page read.
     Open(Plan, Stop),
+    /// The first commit after such an open.
+    First(Plan, Stop),
 }
 
 #[derive(Clone, Copy, PartialEq)]
@@ -91,6 +93,12 @@ fn sample<S: PageStore + ?Sized, const N: usize>(
             take(&mut || subject.store.settle())
         }
         Work::Open(plan, stop) => open(subject, plan, stop, take),
+        Work::First(plan, stop) => {
+            stop_after_commit(subject, plan, stop);
+            subject.store.start();
+            let batch = subject.next_batch(plan);
+            take(&mut || commit(&mut *subject.store, &batch))
+        }
     }
 }
 
@@ -115,6 +123,22 @@ fn open<S: PageStore + ?Sized, const N: usize>(
     stop: Stop,
     take: Take<N>,
 ) -> [f64; N] {
+    let (oid, wanted) = stop_after_commit(subject, plan, stop);
+    let mut page = [0; BLOCK];
+    let found = take(&mut || {
+        subject.store.start();
+        subject.store.read(oid, &mut page);
+    });
+    assert!(page == wanted, "page {oid} reads other bytes after a stop");
+    found
+}
+
+/// Stops a store that has all home but one commit, whose first page it gives.
+fn stop_after_commit<S: PageStore + ?Sized>(
+    subject: &mut Subject<S>,
+    plan: Plan,
+    stop: Stop,
+) -> (u32, Page) {
     bring_home(&mut *subject.store);
     let batch = subject.next_batch(plan);
     commit(&mut *subject.store, &batch);
@@ -123,12 +147,5 @@ fn open<S: PageStore + ?Sized, const N: usize>(
         let files = subject.store.files();
         files.iter().for_each(|file| cold::drop_cached(file));
     }
-    let (oid, wanted) = &batch[0];
-    let mut page = [0; BLOCK];
-    let found = take(&mut || {
-        subject.store.start();
-        subject.store.read(*oid, &mut page);
-    });
-    assert!(page == *wanted, "page {oid} reads other bytes after a stop");
-    found
+    batch[0]
 }
