@@ -2,9 +2,13 @@
 //! thousands of doctored cards, each made of a good one by a few wrong bytes.
 
 mod common;
+#[path = "../../trials/src/rng.rs"]
+#[allow(dead_code)]
+mod rng;
 
-use common::{busy, put_number, range, whole_image, Maker, Rng};
+use common::{busy, put_number, range, whole_image, Maker};
 use lane::{Store, BLOCK};
+use rng::Rng;
 use std::collections::{BTreeMap, BTreeSet};
 use tool::card::number;
 use tool::explain::{finding, first_no, Sight, QUESTIONS};
@@ -175,7 +179,7 @@ fn without_numbers(text: &str) -> String {
 
 #[test]
 fn what_is_found_has_the_library_s_number() {
-    let (bases, mut rng) = (bases(), Rng(SEED));
+    let (bases, mut rng) = (bases(), Rng::new(SEED));
     let (mut refused, mut said) = (BTreeMap::<u32, usize>::new(), BTreeSet::new());
     for i in 0..CARDS {
         let card = bases[rng.below(bases.len())].doctored(&mut rng);
@@ -196,7 +200,7 @@ fn what_is_found_has_the_library_s_number() {
 /// The test above can fail: a tool that asks fewer questions is found out.
 #[test]
 fn a_question_that_is_not_asked_is_missed() {
-    let (bases, mut rng) = (bases(), Rng(SEED));
+    let (bases, mut rng) = (bases(), Rng::new(SEED));
     let mut missed = [0; QUESTIONS.len()];
     for _ in 0..2_000 {
         let card = bases[rng.below(bases.len())].doctored(&mut rng);

@@ -1,4 +1,4 @@
-//! Cards made by the proved calls in memory, the tool run on them, and a source of chance.
+//! Cards made by the proved calls in memory, and the tool run on them.
 
 // Each test takes what it needs of it.
 #![allow(dead_code)]
@@ -177,26 +177,4 @@ pub fn busy() -> Vec<u8> {
 
 pub fn put_number(card: &mut [u8], at: usize, number: u32) {
     card[at..at + 4].copy_from_slice(&number.to_le_bytes());
-}
-
-/// A small repeatable source of chance (splitmix).
-pub struct Rng(pub u64);
-
-impl Rng {
-    pub fn next(&mut self) -> u64 {
-        self.0 = self.0.wrapping_add(0x9E37_79B9_7F4A_7C15);
-        let mut mixed = self.0;
-        mixed = (mixed ^ (mixed >> 30)).wrapping_mul(0xBF58_476D_1CE4_E5B9);
-        mixed = (mixed ^ (mixed >> 27)).wrapping_mul(0x94D0_49BB_1331_11EB);
-        mixed ^ (mixed >> 31)
-    }
-
-    /// 0 to bound - 1.
-    pub fn below(&mut self, bound: usize) -> usize {
-        (self.next() % bound as u64) as usize
-    }
-
-    pub fn pick<T: Copy>(&mut self, choices: &[T]) -> T {
-        choices[self.below(choices.len())]
-    }
 }
