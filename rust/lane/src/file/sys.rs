@@ -23,6 +23,9 @@ const SYS_IO_GETEVENTS: c_long = 208;
 const SYS_IO_SUBMIT: c_long = 209;
 const IOCB_CMD_PWRITE: u16 = 1;
 
+/// Bytes of a header and the largest area.
+const LOOKED_AT: i64 = 513 * 512;
+
 extern "C" {
     fn mmap(
         at: *mut c_void,
@@ -106,12 +109,12 @@ pub struct Mapping {
 }
 
 impl Mapping {
-    /// The first `length` bytes of the file as the device has them, above 0. The file must be as
-    /// long and stay so, and nobody else may write it: the caller holds its lock.
+    /// The first `length` bytes of the file, above 0. The file must be as long and stay so, and
+    /// nobody else may write it: the caller holds its lock.
     pub fn new(file: &File, length: usize) -> io::Result<Mapping> {
-        // SAFETY: numbers alone are handed over. What is not written yet stays cached, else pages
-        // come from the device when they are touched.
-        unsafe { posix_fadvise(file.as_raw_fd(), 0, 0, POSIX_FADV_DONTNEED) };
+        // SAFETY: numbers alone are handed over. What the system has cached of header and area is
+        // given up, as far as it is not still to be written: a start is to look at the device.
+        unsafe { posix_fadvise(file.as_raw_fd(), 0, LOOKED_AT, POSIX_FADV_DONTNEED) };
         // SAFETY: a new mapping, at a place that the system chooses.
         let at = unsafe {
             mmap(
