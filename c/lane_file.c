@@ -397,12 +397,8 @@ static int disk_flush(void *self)
     return sync_all(d->fd);
 }
 
-/* What the page cache has of header and area is dropped first: a start is to look at the device. */
 static void *map_file(int fd, size_t n)
 {
-#ifdef POSIX_FADV_DONTNEED
-    posix_fadvise(fd, 0, (1 + LANE_AREA_MAX) * LANE_BLOCK, POSIX_FADV_DONTNEED);
-#endif
     void *card = mmap(NULL, n, PROT_READ | PROT_WRITE, MAP_PRIVATE, fd, 0);
     if (card == MAP_FAILED)
         return NULL;
