@@ -7,8 +7,10 @@
 
 static void done(int answer)
 {
-    if (answer != LANE_DONE)
-        exit(fprintf(stderr, "balances: %s\n", lane_file_text(answer)));
+    if (answer != LANE_DONE) {
+        fprintf(stderr, "balances: %s\n", lane_file_text(answer));
+        exit(1);
+    }
 }
 
 int main(int argc, char **argv)
@@ -18,8 +20,10 @@ int main(int argc, char **argv)
     const uint32_t pages[2] = {0, 3};                                  /* from OID 0 on, 3 */
     long balances[3][LANE_BLOCK / sizeof(long)];
     lane_file *lane;
-    if (lane_file_open(&lane, card, &any_disk) != LANE_DONE)
-        done(lane_file_create(&lane, card, 12, pages, 2, &any_disk));
+    int answer = lane_file_open(&lane, card, &any_disk);
+    if (answer == LANE_FILE_SYSTEM) /* not there yet */
+        answer = lane_file_create(&lane, card, 12, pages, 2, &any_disk);
+    done(answer);
     for (uint32_t oid = 0; oid < 3; oid++)
         done(lane_file_read(lane, oid, 0, balances[oid]));
     for (int n = 0;; n++) {

@@ -10,8 +10,8 @@ fn main() -> Result<(), Error> {
     any_disk.promise(Promise::Kill); // a lane asks for more
     let pages = [Range { first: 0, pages: 3 }];
     let mut lane = match any_disk.open(&card) {
-        Err(_) => any_disk.create(&card, 12, &pages)?,
-        Ok(lane) => lane,
+        Err(Error::Drive { .. }) => any_disk.create(&card, 12, &pages)?, // not there yet
+        lane => lane?,
     };
     let keys = [0, 1, 2].map(|oid| Key { oid, count: 0 });
     let mut page = [0; BLOCK];
