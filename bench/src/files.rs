@@ -147,7 +147,7 @@ impl Files {
         for stop in self.stops() {
             self.times(rounds, table, Work::Open(FAR_APART, *stop), n);
         }
-        table.group("us the first commit after it", micros, &COLUMNS, &RATIOS);
+        table.group(saved::FIRST, micros, &COLUMNS, &RATIOS);
         for stop in self.stops() {
             self.times(rounds, table, Work::First(FAR_APART, *stop), n);
         }
@@ -227,10 +227,14 @@ impl Files {
     }
 
     fn counted(&mut self, work: Work, rounds: &Rounds) -> Vec<Option<[f64; 4]>> {
+        let samples = match work {
+            Work::Open(..) => rounds.pace.opens(),
+            _ => rounds.pace.samples,
+        };
         let columns = if of_lanes(work) { LANES } else { COLUMNS.len() };
         let some = self.subjects[..columns].iter_mut();
         let mut found: Vec<_> = some
-            .map(|subject| Some(work::counts(subject, work, rounds.pace.samples)))
+            .map(|subject| Some(work::counts(subject, work, samples)))
             .collect();
         found.resize(COLUMNS.len(), None);
         found

@@ -13,6 +13,7 @@ pub const LMDB: usize = 2;
 pub const COMMIT: &str = "us a durable commit";
 pub const IN_A_ROW: &str = "us a durable commit, in a row";
 pub const OPEN: &str = "us to open, up to the first page";
+pub const FIRST: &str = "us the first commit after it";
 
 /// Digits in groups of three.
 pub fn grouped(n: f64) -> String {

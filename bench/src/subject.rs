@@ -78,7 +78,8 @@ impl<S: PageStore + ?Sized> Subject<S> {
         (oid, self.page(oid))
     }
 
-    /// Brings a store that was started into use: every page is written since then, and home.
+    /// Brings a store that was started into use: every page is written since then, and home. Those
+    /// that are not written again are read back at the end.
     pub fn bring_into_use(&mut self) {
         let oids: Vec<u32> = (FIRST..FIRST + WRITTEN).collect();
         for some in oids.chunks(MANY) {
@@ -86,6 +87,7 @@ impl<S: PageStore + ?Sized> Subject<S> {
             commit(&mut *self.store, &batch);
         }
         bring_home(&mut *self.store);
+        self.unread.clear();
     }
 
     /// Pages read as they were last committed, by the store as it is and after a restart.

@@ -1,9 +1,9 @@
 //! The picture: a panel for each place, a row for each measure, a bar for each store. Bars are as
 //! long as the logarithm of the time.
 
-use crate::joined::{Figure, Joined, GROUPS};
+use crate::joined::{Joined, JoinedRow, GROUPS};
 use crate::svg::{Anchor, Style, Svg};
-use saved::{grouped, LANES, LMDB, STORES};
+use saved::{grouped, STORES};
 
 pub struct Panel {
     pub title: &'static str,
@@ -11,10 +11,11 @@ pub struct Panel {
 }
 
 const TITLE: &str = "Time of commits and opens, beside LMDB and SQLite";
-const HEADINGS: [&str; 3] = [
+const HEADINGS: [&str; GROUPS.len()] = [
     "A durable commit; the last one is home",
     "Durable commits in a row; each takes the last one home",
     "Open, up to the first page read",
+    "The first commit after it, of 32 pages far apart",
 ];
 /// What the legend says of each store, and where.
 const NAMES: [(&str, f64); STORES.len()] = [
@@ -182,7 +183,12 @@ fn grid(svg: &mut Svg, axis: &Axis, body: f64) {
     }
     let middle = axis.x + SCALE / 2.0;
     let below = TOP + body + 26.0;
-    svg.text(middle, below, style, "microseconds, logarithmic");
+    svg.text(
+        middle,
+        below,
+        style,
+        "microseconds, logarithmic; shorter is better",
+    );
 }
 
 fn row(svg: &mut Svg, y: f64, panels: &[Panel], axes: &[Axis], group: &str, label: &str) {
@@ -194,7 +200,7 @@ fn row(svg: &mut Svg, y: f64, panels: &[Panel], axes: &[Axis], group: &str, labe
     svg.text(MARGIN + LABELS - 10.0, middle, style, label);
     for (panel, axis) in panels.iter().zip(axes) {
         match panel.joined.row(group, label) {
-            Some(found) => bars(svg, y, axis, &found.figures),
+            Some(found) => bars(svg, y, axis, found),
             None => {
                 let style = Style {
                     colour: FAINT,
@@ -206,9 +212,8 @@ fn row(svg: &mut Svg, y: f64, panels: &[Panel], axes: &[Axis], group: &str, labe
     }
 }
 
-fn bars(svg: &mut Svg, y: f64, axis: &Axis, figures: &[Option<Figure>]) {
-    let lmdb = figures[LMDB].map(|f| f.middle);
-    for (i, figure) in figures.iter().enumerate() {
+fn bars(svg: &mut Svg, y: f64, axis: &Axis, row: &JoinedRow) {
+    for (i, figure) in row.figures.iter().enumerate() {
         let Some(figure) = figure else { continue };
         let top = y + i as f64 * PITCH;
         let end = axis.at(figure.middle);
@@ -218,20 +223,15 @@ fn bars(svg: &mut Svg, y: f64, axis: &Axis, figures: &[Option<Figure>]) {
             let spread = [axis.at(figure.low), middle, axis.at(figure.high), middle];
             svg.line(spread, INK, 1.0);
         }
-        let ratio = lmdb.filter(|_| i < LANES).map(|lmdb| figure.middle / lmdb);
-        words(
-            svg,
-            axis.at(figure.high) + 4.0,
-            top + BAR - 1.2,
-            figure,
-            ratio,
-        );
+        let ratio = row.ratios.get(i).copied().flatten();
+        let (x, y) = (axis.at(figure.high) + 4.0, top + BAR - 1.2);
+        words(svg, x, y, figure.middle, ratio);
     }
 }
 
 /// The time, and how it is to LMDB's.
-fn words(svg: &mut Svg, x: f64, y: f64, figure: &Figure, ratio: Option<f64>) {
-    let time = microseconds(figure.middle);
+fn words(svg: &mut Svg, x: f64, y: f64, ns: f64, ratio: Option<f64>) {
+    let time = microseconds(ns);
     svg.text(x, y, SMALL, &time);
     if let Some(ratio) = ratio {
         let style = Style {

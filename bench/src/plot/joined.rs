@@ -1,6 +1,6 @@
 //! Runs of one kind of place, joined: of every figure the middle one, the lowest and the highest.
 
-use saved::{Group, Row, Run};
+use saved::{Group, Row, Run, LANES, LMDB};
 
 #[derive(Clone, Copy)]
 pub struct Figure {
@@ -19,10 +19,12 @@ pub struct JoinedRow {
     pub label: String,
     /// A figure for each store, where there is one.
     pub figures: Vec<Option<Figure>>,
+    /// The time of each ready layer by LMDB's in the same run, the middle one.
+    pub ratios: [Option<f64>; LANES],
 }
 
 /// The groups that are drawn.
-pub const GROUPS: [&str; 3] = [saved::COMMIT, saved::IN_A_ROW, saved::OPEN];
+pub const GROUPS: [&str; 4] = [saved::COMMIT, saved::IN_A_ROW, saved::OPEN, saved::FIRST];
 
 impl Joined {
     /// All runs must have the same rows.
@@ -65,17 +67,29 @@ fn joined_rows(groups: &[&Group]) -> Result<Vec<JoinedRow>, String> {
         Ok(JoinedRow {
             label: row.label.clone(),
             figures: (0..row.cells.len()).map(|c| figure(&all, c)).collect(),
+            ratios: std::array::from_fn(|lane| ratio(&all, lane)),
         })
     })
     .collect()
 }
 
 fn figure(rows: &[&Row], column: usize) -> Option<Figure> {
-    let mut all: Vec<f64> = rows.iter().filter_map(|row| row.cells[column]).collect();
-    all.sort_by(f64::total_cmp);
+    let all = sorted(rows.iter().filter_map(|row| row.cells[column]));
     Some(Figure {
         low: *all.first()?,
         middle: all[all.len() / 2],
         high: *all.last()?,
     })
+}
+
+fn ratio(rows: &[&Row], lane: usize) -> Option<f64> {
+    let to_lmdb = |row: &&Row| Some(row.cells[lane]? / row.cells[LMDB]?);
+    let all = sorted(rows.iter().filter_map(to_lmdb));
+    all.get(all.len() / 2).copied()
+}
+
+fn sorted(some: impl Iterator<Item = f64>) -> Vec<f64> {
+    let mut all: Vec<f64> = some.collect();
+    all.sort_by(f64::total_cmp);
+    all
 }
