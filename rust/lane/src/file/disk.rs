@@ -1,4 +1,4 @@
-use super::drive::card_length;
+use super::drive::{card_length, short_write};
 use super::opened::{Below, Opened};
 use super::sys::{Aio, Mapping};
 use super::{length, Card, Doing, Drive, Error, Promise, Run};
@@ -186,7 +186,7 @@ impl Drive for Disk {
         let written = self.file.write_at(bytes, at)?;
         if written < bytes.len() {
             self.file.write_at(&bytes[written..], at + written as u64)?;
-            return Err(io::ErrorKind::WriteZero.into());
+            return Err(short_write());
         }
         Ok(())
     }

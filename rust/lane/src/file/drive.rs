@@ -89,3 +89,8 @@ pub(super) fn card_length(bytes: u64) -> Result<usize, Error> {
         _ => Err(crate::Refusal::Card.into()),
     }
 }
+
+/// A write that was not done whole, and for which the system gives no reason.
+pub(super) fn short_write() -> io::Error {
+    io::Error::new(io::ErrorKind::WriteZero, "only a part was written")
+}

@@ -1,6 +1,7 @@
 //! What the system has and `std` has not: private mappings, hints, and many writes at once. All
 //! unsafe code of the layer is here.
 
+use super::drive::short_write;
 use super::Run;
 use std::ffi::{c_char, c_int, c_long, c_uint, c_ulong, c_void};
 use std::fs::File;
@@ -309,7 +310,7 @@ fn outcome(event: &IoEvent) -> io::Result<()> {
         return Err(io::Error::from_raw_os_error(-event.answer as i32));
     }
     if event.answer as u64 != event.data {
-        return Err(io::ErrorKind::WriteZero.into());
+        return Err(short_write());
     }
     Ok(())
 }
