@@ -242,15 +242,14 @@ impl Place {
         Day(String::from_utf8(told.stdout).unwrap())
     }
 
-    /// Whether the last commit that was done is found, or the one that failed. Where create failed a
-    /// new file is gone, unless it is another's; once the card is written whole it may stay.
+    /// Whether the last commit that was done is found, or the one that failed. Where create failed,
+    /// a new file is gone, unless it is another's.
     fn kept(&self, words: &str, day: &Day) -> bool {
         let card = self.folder.join("card");
         let found = || shown(&options(words).open(&card).unwrap());
         let done = day.count("done commit") as u8;
         let last = done + u8::from(day.0.contains("failed commit"));
         match day.count("done create") {
-            0 if card.exists() && day.count("mmap") + day.count("pread") > 0 => found() == 0,
             0 => card.exists() == (words.ends_with("replace") || day.answer() == BUSY),
             _ => (done..=last).contains(&found()),
         }

@@ -1,5 +1,5 @@
 use super::drive::{card_length, short_write};
-use super::opened::{Below, Opened};
+use super::opened::{self, Opened};
 use super::sys::{Aio, Mapping};
 use super::{length, Card, Doing, Drive, Error, Promise, Run};
 use crate::BLOCK;
@@ -8,18 +8,18 @@ use std::fs::{self, File, OpenOptions};
 use std::io;
 use std::io::{Seek, SeekFrom};
 use std::os::unix::fs::FileExt;
-use std::path::Path;
+use std::path::{Path, PathBuf};
 
 /// A file or a block device, locked for this lane.
 ///
 /// Blocks go past the page cache where there is O_DIRECT, so that a write brings down no neighbour.
 pub struct Disk {
+    /// Before the file, so that it is removed under its lock.
+    unfinished: Unfinished,
     file: File,
     length: u64,
     /// A device may be longer than its card, a file may not.
     device: bool,
-    /// Is the file a new one?
-    made: bool,
     mapped: bool,
     together: Together,
 }
@@ -40,22 +40,7 @@ impl Disk {
     ///
     /// [`Error::Drive`], [`Error::Busy`], [`Error::Promise`].
     pub fn open(path: impl AsRef<Path>, promise: Promise) -> Result<Disk, Error> {
-        let Opened {
-            mut file,
-            device,
-            below,
-        } = Opened::new(path.as_ref(), promise)?;
-        Ok(Disk {
-            length: Doing::Open.told(file.seek(SeekFrom::End(0)))?,
-            file,
-            device,
-            made: false,
-            mapped: true,
-            together: match below {
-                Below::Device => Together::Asked,
-                Below::Cache => Together::No,
-            },
-        })
+        Disk::take(path.as_ref(), promise, Unfinished::none())
     }
 
     /// Makes a file for a card of so many bytes, or opens a device. What is there is left as it is,
@@ -72,24 +57,56 @@ impl Disk {
         promise: Promise,
         replace: bool,
     ) -> Result<Disk, Error> {
-        let path = path.as_ref();
-        let made = Doing::Open.told(make(path))?;
-        let opened = Disk::open(path, promise).and_then(|mut disk| {
-            disk.made = made;
-            disk.fit(path, length, replace).map(|()| disk)
-        });
-        opened.inspect_err(|why| {
-            if made && !matches!(why, Error::Busy) {
-                remove(path);
-            }
-        })
+        let mut disk = Disk::begin(path.as_ref(), length, promise, replace)?;
+        disk.keep();
+        Ok(disk)
     }
 
-    /// Removes the file, if `create` has made it.
-    pub(super) fn discard(self, path: &Path) {
-        if self.made {
-            remove(path);
+    /// The same, but that a new file is removed with the disk unless it is to be kept.
+    pub(super) fn begin(
+        path: &Path,
+        length: u64,
+        promise: Promise,
+        replace: bool,
+    ) -> Result<Disk, Error> {
+        let unfinished = Doing::Open.told(Unfinished::make(path))?;
+        let mut disk = Disk::take(path, promise, unfinished)?;
+        match disk.fit(path, length, replace) {
+            Err(Error::Exists) => {
+                disk.keep();
+                Err(Error::Exists)
+            }
+            fits => fits.map(|()| disk),
         }
+    }
+
+    /// The file stays, whatever comes.
+    pub(super) fn keep(&mut self) {
+        self.unfinished.keep();
+    }
+
+    fn take(path: &Path, promise: Promise, mut unfinished: Unfinished) -> Result<Disk, Error> {
+        let opened = Opened::new(path, promise).inspect_err(|why| {
+            if matches!(why, Error::Busy) {
+                unfinished.keep();
+            }
+        })?;
+        let mut disk = Disk {
+            unfinished,
+            length: 0,
+            device: opened.device,
+            mapped: true,
+            together: match opened.past_the_cache {
+                true => Together::Asked,
+                false => Together::No,
+            },
+            file: opened.file,
+        };
+        if promise == Promise::Asked {
+            opened::keeps(&disk.file, disk.device, opened.below)?;
+        }
+        disk.length = Doing::Open.told(disk.file.seek(SeekFrom::End(0)))?;
+        Ok(disk)
     }
 
     /// The card is read whole into a buffer, and not mapped.
@@ -235,16 +252,32 @@ impl fmt::Debug for Disk {
     }
 }
 
-/// Makes an empty file, and tells whether there was none.
-fn make(path: &Path) -> io::Result<bool> {
-    let made = OpenOptions::new().write(true).create_new(true).open(path);
-    match made {
-        Err(why) if why.kind() == io::ErrorKind::AlreadyExists => Ok(false),
-        made => made.map(|_| true),
+/// A file that was made here and has no card yet. It is removed with this.
+struct Unfinished(Option<PathBuf>);
+
+impl Unfinished {
+    fn none() -> Unfinished {
+        Unfinished(None)
+    }
+
+    /// Makes an empty file, if there is none.
+    fn make(path: &Path) -> io::Result<Unfinished> {
+        match OpenOptions::new().write(true).create_new(true).open(path) {
+            Err(why) if why.kind() == io::ErrorKind::AlreadyExists => Ok(Unfinished::none()),
+            made => made.map(|_| Unfinished(Some(path.to_path_buf()))),
+        }
+    }
+
+    fn keep(&mut self) {
+        self.0 = None;
     }
 }
 
-/// For a file that was of no use. What is told is why, not whether this succeeds.
-fn remove(path: &Path) {
-    let _ = fs::remove_file(path);
+impl Drop for Unfinished {
+    fn drop(&mut self) {
+        if let Some(path) = &self.0 {
+            // What is told is why there is no card, not whether this succeeds.
+            let _ = fs::remove_file(path);
+        }
+    }
 }

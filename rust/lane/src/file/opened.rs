@@ -19,18 +19,16 @@ const IN_PLACE: [i64; 4] = [0xEF53, 0x5846_5342, 0x4D44, 0x2011_BAB0];
 pub struct Opened {
     pub file: File,
     pub device: bool,
-    pub below: Below,
-}
-
-/// Where written blocks go.
-pub enum Below {
-    /// To a block device, past the page cache.
-    Device,
-    /// To the page cache, or to a file system that has nothing else.
-    Cache,
+    /// The number of the device that its blocks are on. Memory and network file systems have none,
+    /// and a major number of 0.
+    pub below: u64,
+    /// Do blocks go past the page cache, to a device?
+    pub past_the_cache: bool,
 }
 
 impl Opened {
+    /// Without O_DIRECT only for `Kill`.
+    ///
     /// # Errors
     ///
     /// [`Error::Drive`], [`Error::Busy`], [`Error::Promise`].
@@ -39,18 +37,15 @@ impl Opened {
             (Err(Error::Promise(_)), Promise::Kill) => (opened(Found::new(path, 0))?, false),
             (found, _) => (found?, true),
         };
-        lock(&found.file)?;
-        if promise == Promise::Asked {
-            found.keeps()?;
-        }
+        let Found { file, told } = found;
+        lock(&file)?;
+        let device = !told.is_file();
+        let below = if device { told.rdev() } else { told.dev() };
         Ok(Opened {
-            device: !found.told.is_file(),
-            below: if direct && major(found.below()) != 0 {
-                Below::Device
-            } else {
-                Below::Cache
-            },
-            file: found.file,
+            file,
+            device,
+            below,
+            past_the_cache: direct && major(below) != 0,
         })
     }
 }
@@ -105,32 +100,22 @@ impl Found {
         let told = file.metadata()?;
         Ok(Found { file, told })
     }
+}
 
-    /// The number of the device that its blocks are on. Memory and network file systems have none,
-    /// and a major number of 0.
-    fn below(&self) -> u64 {
-        if self.told.is_file() {
-            self.told.dev()
-        } else {
-            self.told.rdev()
+/// Asks whether a block goes down by itself, and stays where it is.
+pub fn keeps(file: &File, device: bool, below: u64) -> Result<(), Error> {
+    if !device {
+        let kind = Doing::Open.told(sys::file_system(file))?;
+        if !IN_PLACE.contains(&kind) {
+            return Err(Unkept::FileSystem(kind).into());
         }
     }
-
-    /// Asks whether a block goes down by itself, and stays where it is.
-    fn keeps(&self) -> Result<(), Error> {
-        if self.told.is_file() {
-            let kind = Doing::Open.told(sys::file_system(&self.file))?;
-            if !IN_PLACE.contains(&kind) {
-                return Err(Unkept::FileSystem(kind).into());
-            }
-        }
-        match Sectors::of(self.below()).ok_or(Unkept::Device)? {
-            Sectors {
-                logical: SECTOR,
-                physical: SECTOR,
-            } => Ok(()),
-            Sectors { logical, physical } => Err(Unkept::Sector { logical, physical }.into()),
-        }
+    match Sectors::of(below).ok_or(Unkept::Device)? {
+        Sectors {
+            logical: SECTOR,
+            physical: SECTOR,
+        } => Ok(()),
+        Sectors { logical, physical } => Err(Unkept::Sector { logical, physical }.into()),
     }
 }
 

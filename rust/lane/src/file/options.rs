@@ -108,8 +108,8 @@ impl Options {
     /// # Errors
     ///
     /// [`Error::Refused`] 3 or 5, before anything is touched; [`Error::Exists`],
-    /// [`Error::Drive`], [`Error::Busy`], [`Error::Promise`], [`Error::Length`]. A new file in which
-    /// the card has no room is removed.
+    /// [`Error::Drive`], [`Error::Busy`], [`Error::Promise`], [`Error::Length`]. A new file is then
+    /// removed.
     pub fn create(
         &self,
         path: impl AsRef<Path>,
@@ -119,12 +119,11 @@ impl Options {
         let path = path.as_ref();
         let length = length::of(area, ranges);
         let card = formatted(length, area, ranges)?;
-        let mut disk = Disk::create(path, length, self.promise, self.replace)?;
-        if let Err(why) = put(&mut disk, &card) {
-            disk.discard(path);
-            return Err(why);
-        }
-        self.open_disk(disk)
+        let mut disk = Disk::begin(path, length, self.promise, self.replace)?;
+        put(&mut disk, &card)?;
+        let mut lane = self.open_disk(disk)?;
+        lane.drive_mut().keep();
+        Ok(lane)
     }
 
     /// Opens a card in a file or on a device.

@@ -260,12 +260,12 @@ impl Aio {
                 syscall(SYS_IO_GETEVENTS, self.0, left, left, into, no_limit)
             };
             match usize::try_from(told) {
+                Ok(0) => return Err(self.give_up(io::ErrorKind::TimedOut.into())),
                 Ok(told) => events.extend_from_slice(&more[..told]),
                 Err(_) => {
                     let why = io::Error::last_os_error();
                     if why.kind() != io::ErrorKind::Interrupted {
-                        self.give_up();
-                        return Err(why);
+                        return Err(self.give_up(why));
                     }
                 }
             }
@@ -273,7 +273,13 @@ impl Aio {
         Ok(())
     }
 
-    fn give_up(&mut self) {
+    /// None is in flight afterwards, and none can be asked for.
+    fn give_up(&mut self, why: io::Error) -> io::Error {
+        self.destroy();
+        why
+    }
+
+    fn destroy(&mut self) {
         // SAFETY: the context made by `new`, or 0, which is none. It is not used afterwards.
         unsafe { syscall(SYS_IO_DESTROY, self.0) };
         self.0 = 0;
@@ -282,7 +288,7 @@ impl Aio {
 
 impl Drop for Aio {
     fn drop(&mut self) {
-        self.give_up();
+        self.destroy();
     }
 }
 
