@@ -25,10 +25,16 @@ extern "C" {
     fn mincore(at: *mut c_void, length: usize, told: *mut u8) -> c_int;
 }
 
-/// Takes a file that nobody has open out of the page cache, and sees that it is out.
-pub fn drop_cached(path: &Path) {
+/// Syncs a file, whether it needs that or not.
+pub fn sync(path: &Path) -> File {
     let file = File::open(path).expect("a store's file");
     file.sync_all().expect("the file synced");
+    file
+}
+
+/// Takes a file that nobody has open out of the page cache, and sees that it is out.
+pub fn drop_cached(path: &Path) {
+    let file = sync(path);
     // SAFETY: numbers alone.
     let failed = unsafe { posix_fadvise(file.as_raw_fd(), 0, 0, POSIX_FADV_DONTNEED) };
     assert_eq!(failed, 0, "posix_fadvise");

@@ -143,9 +143,12 @@ fn stop_after_commit<S: PageStore + ?Sized>(
     let batch = subject.next_batch(plan);
     commit(&mut *subject.store, &batch);
     subject.store.stop();
-    if stop == Stop::PowerCut {
-        let files = subject.store.files();
-        files.iter().for_each(|file| cold::drop_cached(file));
+    for file in subject.store.files() {
+        match stop {
+            // A stop may take long. No store's start is to find disk and processor asleep.
+            Stop::Kill => drop(cold::sync(&file)),
+            Stop::PowerCut => cold::drop_cached(&file),
+        }
     }
     batch[0]
 }
