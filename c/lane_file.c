@@ -397,8 +397,12 @@ static int disk_flush(void *self)
     return sync_all(d->fd);
 }
 
+/* What the page cache has of header and area is dropped first: a start is to look at the device. */
 static void *map_file(int fd, size_t n)
 {
+#ifdef POSIX_FADV_DONTNEED
+    posix_fadvise(fd, 0, (1 + LANE_AREA_MAX) * LANE_BLOCK, POSIX_FADV_DONTNEED);
+#endif
     void *card = mmap(NULL, n, PROT_READ | PROT_WRITE, MAP_PRIVATE, fd, 0);
     if (card == MAP_FAILED)
         return NULL;
@@ -423,11 +427,12 @@ static void disk_unmap(void *self, void *card, size_t n)
 static void disk_close(void *self)
 {
     disk *d = self;
-    aio_end(d);
     if (d->mapping != NULL)
         disk_unmap(d, d->mapping, (size_t)d->length);
+    /* With the file goes the lock: the end of several writes at once takes the system a while. */
     if (d->fd >= 0)
         close_file(d->fd);
+    aio_end(d);
     let_go(d);
 }
 

@@ -18,7 +18,7 @@
 #include <unistd.h>
 
 #define CALLS(DO) \
-    DO(open) DO(fstat) DO(flock) DO(ftruncate) DO(mmap) DO(madvise) DO(pread) DO(pwrite) \
+    DO(open) DO(fstat) DO(flock) DO(ftruncate) DO(mmap) DO(madvise) DO(posix_fadvise) DO(pread) DO(pwrite) \
     DO(fdatasync) DO(fsync) DO(posix_memalign) DO(strndup) DO(syscall)
 
 #define NUMBER(name) CALL_##name,
@@ -49,6 +49,7 @@ int told_flock(int fd, int operation);
 int told_ftruncate(int fd, off_t length);
 void *told_mmap(void *at, size_t n, int protection, int flags, int fd, off_t from);
 int told_madvise(void *at, size_t n, int advice);
+int told_posix_fadvise(int fd, off_t at, off_t n, int advice);
 ssize_t told_pread(int fd, void *buffer, size_t n, off_t at);
 ssize_t told_pwrite(int fd, const void *bytes, size_t n, off_t at);
 int told_fdatasync(int fd);
@@ -90,6 +91,11 @@ void *told_mmap(void *at, size_t n, int protection, int flags, int fd, off_t fro
 int told_madvise(void *at, size_t n, int advice)
 {
     return fails(CALL_madvise) ? -1 : madvise(at, n, advice);
+}
+
+int told_posix_fadvise(int fd, off_t at, off_t n, int advice)
+{
+    return fails(CALL_posix_fadvise) ? EPROTO : posix_fadvise(fd, at, n, advice);
 }
 
 ssize_t told_pread(int fd, void *buffer, size_t n, off_t at)
@@ -225,7 +231,8 @@ static int needed(int call)
 {
     switch (call) {
     case CALL_mmap:
-    case CALL_madvise: return 0;
+    case CALL_madvise:
+    case CALL_posix_fadvise: return 0;
     case CALL_open:
     case CALL_pread:
     case CALL_syscall: return -1; /* a sector that is not known, or no writes at once, is no failure */

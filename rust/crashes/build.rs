@@ -11,7 +11,7 @@ const SOURCE: &str = "../../c/lane_file.c";
 const HEADERS: &str = "../../include";
 
 /// Functions of the system, which `src/shim.rs` defines with `crash_` before their names.
-const SYSTEM: [&str; 18] = [
+const SYSTEM: [&str; 19] = [
     "close",
     "fdatasync",
     "flock",
@@ -24,6 +24,7 @@ const SYSTEM: [&str; 18] = [
     "mmap",
     "munmap",
     "open",
+    "posix_fadvise",
     "pread",
     "pwrite",
     "stat",

@@ -617,6 +617,11 @@ unsafe extern "C" fn crash_fstatfs(file: c_int, found: *mut Statfs) -> c_int {
 }
 
 #[no_mangle]
+extern "C" fn crash_posix_fadvise(_file: c_int, _from: i64, _n: i64, _advice: c_int) -> c_int {
+    0
+}
+
+#[no_mangle]
 extern "C" fn crash_madvise(_at: *mut c_void, _n: usize, _advice: c_int) -> c_int {
     0
 }

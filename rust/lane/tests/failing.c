@@ -59,6 +59,7 @@ CALL(off_t, lseek, -1, (int fd, off_t at, int from), (fd, at, from))
 CALL(int, ftruncate, -1, (int fd, off_t length), (fd, length))
 CALL(int, fdatasync, -1, (int fd), (fd))
 CALL(int, fsync, -1, (int fd), (fd))
+CALL(int, posix_fadvise, errno, (int fd, off_t at, off_t n, int advice), (fd, at, n, advice))
 
 int open(const char *path, int flags, mode_t mode)
 {

@@ -32,7 +32,7 @@ const MAPPED: [Case; 8] = [
     ("flock lseek", "71", 2, OPEN),
     ("flock", "11", 2, BUSY),
     ("fsync", "71", 1, OPEN),
-    ("mmap madvise", "71", 2, ""),
+    ("mmap madvise posix_fadvise", "71", 2, ""),
     ("pwrite", "71 half", 10, WRITE),
     ("pwrite", "short", 10, SHORT),
     ("fdatasync", "71", 13, FLUSH),

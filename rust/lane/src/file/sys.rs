@@ -15,6 +15,7 @@ use std::vec::Vec;
 const PROT_READ_WRITE: c_int = 3;
 const MAP_PRIVATE: c_int = 2;
 const MADV_RANDOM: c_int = 1;
+const POSIX_FADV_DONTNEED: c_int = 4;
 const AT_EMPTY_PATH: c_int = 0x1000;
 const STATX_DIOALIGN: c_uint = 0x2000;
 const SYS_IO_SETUP: c_long = 206;
@@ -22,6 +23,9 @@ const SYS_IO_DESTROY: c_long = 207;
 const SYS_IO_GETEVENTS: c_long = 208;
 const SYS_IO_SUBMIT: c_long = 209;
 const IOCB_CMD_PWRITE: u16 = 1;
+
+/// Bytes of a header and the largest area.
+const LOOKED_AT: i64 = 513 * 512;
 
 extern "C" {
     fn mmap(
@@ -34,6 +38,7 @@ extern "C" {
     ) -> *mut c_void;
     fn munmap(at: *mut c_void, length: usize) -> c_int;
     fn madvise(at: *mut c_void, length: usize, advice: c_int) -> c_int;
+    fn posix_fadvise(file: c_int, from: i64, length: i64, advice: c_int) -> c_int;
     fn fstatfs(file: c_int, told: *mut Statfs) -> c_int;
     fn statx(
         folder: c_int,
@@ -108,6 +113,9 @@ impl Mapping {
     /// The first `length` bytes of the file, above 0. The file must be as long and stay so, and
     /// nobody else may write it: the caller holds its lock.
     pub fn new(file: &File, length: usize) -> io::Result<Mapping> {
+        // SAFETY: numbers alone are handed over. What the system has cached of header and area is
+        // given up, as far as it is not still to be written: a start is to look at the device.
+        unsafe { posix_fadvise(file.as_raw_fd(), 0, LOOKED_AT, POSIX_FADV_DONTNEED) };
         // SAFETY: a new mapping, at a place that the system chooses.
         let at = unsafe {
             mmap(
