@@ -116,6 +116,25 @@ fn a_geometry_that_is_refused_makes_no_file() {
     }
 }
 
+/// A card is not given up for a lane that cannot be opened.
+#[test]
+fn memory_that_is_refused_leaves_a_card_as_it_is() {
+    let folder = Folder::new("memory");
+    let mut lane = kill().create(folder.card(), 8, &pages(1)).unwrap();
+    put(&mut lane, FIRST, 7).unwrap();
+    lane.commit().unwrap();
+    drop(lane);
+    for frames in [3, 65] {
+        let mut options = kill();
+        options.frames(frames).replace(true);
+        let answer = options.create(folder.card(), 8, &pages(1)).unwrap_err();
+        assert_eq!(answer.refusal(), Some(Refusal::Memory));
+        let answer = options.open(folder.card()).unwrap_err();
+        assert_eq!(answer.refusal(), Some(Refusal::Memory));
+    }
+    assert_eq!(byte(&kill().open(folder.card()).unwrap(), FIRST), 7);
+}
+
 #[test]
 fn a_file_of_another_length_is_told() {
     let folder = Folder::new("length");

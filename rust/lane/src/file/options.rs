@@ -1,5 +1,5 @@
 use super::{length, Card, Disk, Doing, Drive, Error, Lane};
-use crate::{Range, BLOCK};
+use crate::{Range, Refusal, BLOCK};
 use std::path::Path;
 
 /// What a write or a rescind does where there is no room for it.
@@ -107,7 +107,7 @@ impl Options {
     ///
     /// # Errors
     ///
-    /// [`Error::Refused`] 3 or 5, before anything is touched; [`Error::Exists`],
+    /// [`Error::Refused`] 1, 3 or 5, before anything is touched; [`Error::Exists`],
     /// [`Error::Drive`], [`Error::Busy`], [`Error::Promise`], [`Error::Length`]. A new file is then
     /// removed.
     pub fn create(
@@ -118,7 +118,7 @@ impl Options {
     ) -> Result<Lane, Error> {
         let path = path.as_ref();
         let length = length::of(area, ranges);
-        let card = formatted(length, area, ranges)?;
+        let card = self.formatted(length, area, ranges)?;
         let mut disk = Disk::begin(path, length, self.promise, self.replace)?;
         put(&mut disk, &card)?;
         let mut lane = self.open_disk(disk)?;
@@ -140,14 +140,14 @@ impl Options {
     ///
     /// # Errors
     ///
-    /// [`Error::Refused`] 3 or 5, before anything is written; [`Error::Drive`].
+    /// [`Error::Refused`] 1, 3 or 5, before anything is written; [`Error::Drive`].
     pub fn create_on<D: Drive>(
         &self,
         mut drive: D,
         area: usize,
         ranges: &[Range],
     ) -> Result<Lane<D>, Error> {
-        let card = formatted(drive.length(), area, ranges)?;
+        let card = self.formatted(drive.length(), area, ranges)?;
         put(&mut drive, &card)?;
         self.open_on(drive)
     }
@@ -164,13 +164,17 @@ impl Options {
     fn open_disk(&self, disk: Disk) -> Result<Lane, Error> {
         self.open_on(if self.mapped { disk } else { disk.unmapped() })
     }
-}
 
-/// An empty card of so many bytes.
-fn formatted(length: u64, area: usize, ranges: &[Range]) -> Result<Card, Error> {
-    let mut card = Card::zeros(super::drive::card_length(length)?);
-    crate::format(&mut card, area, ranges)?;
-    Ok(card)
+    /// An empty card of so many bytes. Memory is asked for too, as the open that follows will: what
+    /// is there is not given up for a lane that cannot be opened.
+    fn formatted(&self, length: u64, area: usize, ranges: &[Range]) -> Result<Card, Error> {
+        if !(4..=64).contains(&self.frames) {
+            return Err(Refusal::Memory.into());
+        }
+        let mut card = Card::zeros(super::drive::card_length(length)?);
+        crate::format(&mut card, area, ranges)?;
+        Ok(card)
+    }
 }
 
 /// Block 0 is cleared first and written last: start refuses a card whose format was cut. Every block
