@@ -2,6 +2,9 @@
  * The lane page store for C: nine calls over a card, lent memory and one record.
  * Link target/staticlib/liblane.a (x86-64 Linux), made by `rt staticlib lane`.
  *
+ * Who keeps the card in a file or on a block device has lane_file.h, which does all that follows. This
+ * is for who has no file system.
+ *
  * A program compares lane_version() with LANE_VERSION at its start, and stops if they differ. It
  * formats a card once. After every power-up it starts, and then lends card, memory and record to
  * each call.

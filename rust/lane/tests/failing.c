@@ -51,6 +51,10 @@ static int within(const char *path)
     return strncmp(path, folder, strlen(folder)) == 0;
 }
 
+int open(const char *path, int flags, mode_t mode);
+int close(int fd);
+ssize_t pwrite(int fd, const void *bytes, size_t n, off_t at);
+
 #define CALL(type, name, failure, takes, lends) \
     type name takes { return is_ours(fd) && fails(#name) ? failure : REAL(name) lends; }
 CALL(int, flock, -1, (int fd, int operation), (fd, operation))
@@ -61,10 +65,23 @@ CALL(int, fdatasync, -1, (int fd), (fd))
 CALL(int, fsync, -1, (int fd), (fd))
 CALL(int, posix_fadvise, errno, (int fd, off_t at, off_t n, int advice), (fd, at, n, advice))
 
+/* Another puts something there. */
+static void take(const char *path)
+{
+    int fd = REAL(open)(path, 1, 0); /* to be written */
+    if (fd < 0 || REAL(pwrite)(fd, "taken", 5, 0) != 5)
+        dprintf(1, "not taken\n");
+    REAL(close)(fd);
+}
+
+/* Word: taken, another has put something there just before. */
 int open(const char *path, int flags, mode_t mode)
 {
-    if (within(path) && fails("open"))
-        return -1;
+    if (within(path) && fails("open")) {
+        if (errno != 0)
+            return -1;
+        take(path);
+    }
     int fd = REAL(open)(path, flags, mode);
     if (fd >= 0 && fd < FILES)
         ours[fd] = (char)within(path);

@@ -22,12 +22,14 @@ const OPEN: &str = "open failed: Protocol error (os error 71)";
 const READ: &str = "read failed: Protocol error (os error 71)";
 const WRITE: &str = "write failed: Protocol error (os error 71)";
 const FLUSH: &str = "flush failed: Protocol error (os error 71)";
+const INTERRUPTED: &str = "flush failed: Interrupted system call (os error 4)";
 const SHORT: &str = "write failed: only a part was written";
 const END: &str = "read failed: failed to fill whole buffer";
 const BUSY: &str = "the card is open already, or its device is in use";
+const EXISTS: &str = "something is there, which is not formatted over unasked";
 const DIRECT: &str = "the promise is not kept: no O_DIRECT for blocks of 512 bytes here";
 
-const MAPPED: [Case; 8] = [
+const MAPPED: [Case; 9] = [
     ("open metadata", "71", 4, OPEN),
     ("flock lseek", "71", 2, OPEN),
     ("flock", "11", 2, BUSY),
@@ -36,6 +38,7 @@ const MAPPED: [Case; 8] = [
     ("pwrite", "71 half", 10, WRITE),
     ("pwrite", "short", 10, SHORT),
     ("fdatasync", "71", 13, FLUSH),
+    ("fdatasync", "4", 13, INTERRUPTED),
 ];
 const UNMAPPED: [Case; 3] = [
     ("pread", "71", 2, READ),
@@ -74,6 +77,8 @@ fn in_memory() {
     place.every_turn("kill", &MAPPED);
     place.every_turn("kill unmapped", &UNMAPPED);
     place.every_turn("kill replace", &REPLACED);
+    // Between the file's making and its opening.
+    place.turn("kill", ("open", "taken", EXISTS), 2);
 }
 
 fn on_a_disk() {
@@ -250,7 +255,10 @@ impl Place {
         let done = day.count("done commit") as u8;
         let last = done + u8::from(day.0.contains("failed commit"));
         match day.count("done create") {
-            0 => card.exists() == (words.ends_with("replace") || day.answer() == BUSY),
+            0 => {
+                let another = [BUSY, EXISTS].contains(&day.answer());
+                card.exists() == (words.ends_with("replace") || another)
+            }
             _ => (done..=last).contains(&found()),
         }
     }

@@ -1,6 +1,6 @@
 use super::drive::{card_length, short_write};
 use super::opened::{self, Opened};
-use super::sys::{Aio, Mapping};
+use super::sys::{self, Aio, Mapping};
 use super::{length, Card, Doing, Drive, Error, Promise, Run};
 use crate::BLOCK;
 use std::fmt;
@@ -209,7 +209,7 @@ impl Drive for Disk {
     }
 
     fn flush(&mut self) -> io::Result<()> {
-        self.file.sync_data()
+        sys::flush(&self.file)
     }
 
     fn write_runs(&mut self, card: &[u8], runs: &[Run]) -> io::Result<()> {

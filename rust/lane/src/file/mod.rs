@@ -42,6 +42,8 @@
 //! **One process.** A card that is open is locked ([`Error::Busy`]). The lock is advisory: a program
 //! that writes the file without asking for it breaks the card. A lane is not used after a fork.
 
+#![deny(unsafe_code)]
+
 mod card;
 mod disk;
 mod drive;
@@ -52,6 +54,7 @@ mod length;
 mod opened;
 mod options;
 mod recorder;
+#[allow(unsafe_code)]
 mod sys;
 
 pub use card::Card;

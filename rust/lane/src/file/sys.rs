@@ -1,5 +1,5 @@
-//! What the system has and `std` has not: private mappings, hints, and many writes at once. All
-//! unsafe code of the layer is here.
+//! What the system has and `std` has not: private mappings, hints, a flush that is made once, and
+//! many writes at once. All unsafe code of the layer is here.
 
 use super::drive::short_write;
 use super::Run;
@@ -39,6 +39,7 @@ extern "C" {
     fn munmap(at: *mut c_void, length: usize) -> c_int;
     fn madvise(at: *mut c_void, length: usize, advice: c_int) -> c_int;
     fn posix_fadvise(file: c_int, from: i64, length: i64, advice: c_int) -> c_int;
+    fn fdatasync(file: c_int) -> c_int;
     fn fstatfs(file: c_int, told: *mut Statfs) -> c_int;
     fn statx(
         folder: c_int,
@@ -48,6 +49,16 @@ extern "C" {
         told: *mut Statx,
     ) -> c_int;
     fn syscall(number: c_long, ...) -> c_long;
+}
+
+/// Flushes what was written. One that a signal interrupts has failed, where `std` would make it
+/// again: no flush is made a second time.
+pub fn flush(file: &File) -> io::Result<()> {
+    // SAFETY: a number alone is handed over.
+    match unsafe { fdatasync(file.as_raw_fd()) } {
+        0 => Ok(()),
+        _ => Err(io::Error::last_os_error()),
+    }
 }
 
 /// What fstatfs tells: the kind of file system, and 14 words that are not read.
