@@ -66,14 +66,14 @@ back-card (start m) l = refl
 back-card (change ws) l = refl
 back-card snapshot l = refl
 back-card pageOut l = refl
-back-card advance l = refl
+back-card (advance n) l = refl
 
 pub back-memory : (c : FrameCall) (l : Lent) → handedBack c l .memory ≡ l .memory
 back-memory (start m) l = refl
 back-memory (change ws) l = refl
 back-memory snapshot l = refl
 back-memory pageOut l = refl
-back-memory advance l = refl
+back-memory (advance n) l = refl
 
 pub kept-refused : (c : FrameCall) (l : Lent) (n : ℕ) → firstNo (asks c l) ≡ n → n ≢ 0 → FrameKept c l (refused n) (handedBack c l)
 kept-refused c l n e z =

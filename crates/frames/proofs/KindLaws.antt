@@ -29,7 +29,7 @@ use Rattle.record.proofs.Held.{Held, together, bounds}
 use Rattle.record.proofs.NoneLaws.{NoChange, none-means, none-size, none-waits}
 use Rattle.record.proofs.SoundLaws.{notes-length, ordered, listed-home, queue-length, entry-inside}
 use Rattle.record.proofs.Tests.{each-within, apart-once}
-use Rattle.record.specs.Holds.{tailFor}
+use Rattle.record.specs.Holds.{tailFor, holdsTogether}
 use Rattle.record.specs.Lists.{cells, once, allWithin}
 use Rattle.record.specs.Meaning.{waits, sizeOf, notesOf, committedSizeOf, queueOf, pendingFirst, currentFirst, phaseOf, stateOf}
 use Rattle.record.specs.declared.store.Changes.{Changes}
@@ -42,6 +42,7 @@ use Rattle.recovery.specs.Directory.{downEntries, dirOf}
 use Rattle.recovery.specs.Sound.{Home}
 use Rattle.recovery.specs.State.{directoryOf, empty, owed}
 use Rattle.recovery.specs.Step.{Kind, directory, trailer, migration, header, flush, tailBytes, trailerBlockNo, nextMigration, kindWrite, afterKind}
+use Rattle.frames.specs.Promise.{passing}
 
 -- a write and the step on the record that goes with it
 pub kind-done : (k : Kind) (s t : Store) (to : ℕ) (bytes card end : List ℕ) → ((m : List ℕ) → kindWrite k (stateOf s m) card ≡ record { block = to; bytes = bytes })
@@ -67,8 +68,9 @@ countedTo s home down = record {
 }
 
 module _ (s : Store) (h : Held s) where
-  counted-held : (home down : ℕ) → home ≤ s .committed .count → down ≤ tailFor (s .pending .count) → (0 < down → waits (s .pending) ≡ 0) → s .phase ≢ 2 → s .phase ≢ 1 → Held (countedTo s home down)
-  counted-held home down a b c calm early = record {
+  counted-held : (home down : ℕ) → home ≤ s .committed .count → down ≤ tailFor (s .pending .count) → (0 < down → waits (s .pending) ≡ 0) → s .phase ≢ 2
+      → (s .phase ≡ 1 → (0 < s .pending .count) × (down ≡ tailFor (s .pending .count)) × (s .committed .count ≤ home)) → Held (countedTo s home down)
+  counted-held home down a b c calm late = record {
     geometry = h .geometry;
     first-low = h .first-low;
     first-high = h .first-high;
@@ -89,7 +91,7 @@ module _ (s : Store) (h : Held s) where
     tail-within = b;
     tail-after = c;
     phase-known = h .phase-known;
-    flushed-after = λ o. absurd (early o);
+    flushed-after = late;
     owed-before = λ o. absurd (calm o);
     head-low = h .head-low;
     seated = h .seated;
@@ -98,13 +100,17 @@ module _ (s : Store) (h : Held s) where
     current = h .current;
   }
 
+  -- entries passed over: the record still holds together
+  pub pass-holds : (n : ℕ) → s .migrated ≤ n → n ≤ s .committed .count → s .phase ≢ 2 → holdsTogether (passing n s) ≡ true
+  pass-holds n low a calm = together (passing n s) (counted-held n (s .tail) a (h .tail-within) (h .tail-after) calm (λ o. let d = h .flushed-after o in (d .0, d .1, omega (arith, d .2, low))))
+
   pub tail-step : waits (s .pending) ≡ 0 → 0 < s .pending .count → s .tail ≤ dirBlocks (s .pending .count) → s .phase ≢ 2 → StepDone (afterKind directory) s (countedTo s (s .migrated) (s .tail + 1))
   unfolding afterKind tailFor
   tail-step still any more calm = record {
     meaning = λ m. ap (λ (n : ℕ). stateOf (countedTo s (s .migrated) n) m) (add-one (s .tail));
     together = together (countedTo s (s .migrated) (s .tail + 1))
         (counted-held (s .migrated) (s .tail + 1) (h .migrated-within) (rw (ne-eqb (s .pending .count) 0 (omega (arith, any))) (omega (arith, more))) (λ l. still) calm
-        (λ o. omega (arith, more, (rw (ne-eqb (s .pending .count) 0 (omega (arith, any))) at (h .flushed-after o .1)))));
+        (λ o. absurd (omega (arith, more, (rw (ne-eqb (s .pending .count) 0 (omega (arith, any))) at (h .flushed-after o .1))))));
   }
 
   -- ---- M
@@ -114,7 +120,7 @@ module _ (s : Store) (h : Held s) where
     unfolding afterKind
     home-step calm = record {
       meaning = λ m. ap (λ (n : ℕ). stateOf (countedTo s n (s .tail)) m) (add-one (s .migrated));
-      together = together (countedTo s (s .migrated + 1) (s .tail)) (counted-held (s .migrated + 1) (s .tail) (omega (arith, more)) (h .tail-within) (h .tail-after) calm (λ o. omega (arith, more, h .flushed-after o .2)));
+      together = together (countedTo s (s .migrated + 1) (s .tail)) (counted-held (s .migrated + 1) (s .tail) (omega (arith, more)) (h .tail-within) (h .tail-after) calm (λ o. absurd (omega (arith, more, h .flushed-after o .2))));
     }
 
     -- M copies the entry's block to its frame

@@ -18,7 +18,7 @@ use Rattle.card.specs.Bytes.{All}
 use Rattle.card.specs.Question.{Question, firstNo}
 use Rattle.card.specs.Ring.{ringAt}
 use Rattle.frames.specs.Promise.{Lent, commonAsks, common}
-use Rattle.frames.specs.Parts.{Writable}
+use Rattle.frames.specs.Parts.{Writable, Readable}
 use Rattle.record.proofs.Held.{Held, held, bounds}
 use Rattle.record.specs.Holds.{holdsTogether}
 use Rattle.record.specs.Meaning.{zeroStore, sizeOf, committedSizeOf, pendingFirst, currentFirst}
@@ -113,6 +113,9 @@ pub area-block : (s : Store) (memory card : ℕ) → Ready s memory card → (fi
     → 512 * to + 512 ≤ card
 area-block s memory card r first i to f l e =
     omega (arith, r .card-is, e, ring-high (s .geometry .area) first i f l, bounds s (held s (r .together)) .area-inside)
+
+pub readable : (s : Store) (memory : ℕ) (card : List ℕ) → Ready s memory (length card) → Readable s card
+readable s memory card r = record { together = r .together; card-long = r .card-is; card-few = r .blocks-high }
 
 pub writable : (s : Store) (memory : ℕ) (card : List ℕ) → Ready s memory (length card) → s .phase ≢ 2 → Writable s card
 writable s memory card r calm = record { together = r .together; card-long = r .card-is; card-few = r .blocks-high; calm = calm }

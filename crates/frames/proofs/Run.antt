@@ -12,15 +12,16 @@ use Rattle.card.specs.Block.{blockAt, whole}
 use Rattle.card.specs.Bytes.{All}
 use Rattle.card.specs.Header.{headerOn}
 use Rattle.card.specs.Question.{firstNo, headerRanges}
-use Rattle.frames.specs.Promise.{Lent, lent, meaningOf, common, FrameCall, start, change, snapshot, pageOut, advance, FrameAnswer, refused, done, wrote, outcome, FrameKept, Loads}
+use Rattle.frames.specs.Promise.{Lent, lent, meaningOf, common, FrameCall, start, change, snapshot, pageOut, advance, FrameAnswer, refused, done, wrote, outcome, FrameKept, Loads, LoadsCommitted}
 use Rattle.record.specs.Meaning.{zeroStore}
-use Rattle.recovery.specs.Book.{FrameBook, bookChange, bookSnapshot, bookStart, bookWrote, keptBefore, bookCut, WholeFrame}
+use Rattle.recovery.specs.Book.{FrameBook, bookChange, bookSnapshot, bookStart, bookWrote, keptBefore, bookCut, WholeFrame, Needs, Brings}
 use Rattle.recovery.specs.Contents.{Contents}
 use Rattle.recovery.specs.Questions.{startAsks}
 use Rattle.recovery.specs.Sound.{Sound}
 use Rattle.recovery.specs.State.{readFrame}
 use Rattle.recovery.specs.Step.{kindDrive, startState}
 use Rattle.recovery.specs.Write.{BlockWrite, Drive, seen, settled, written, Spoilt, Cut, ReachedIs}
+use Rattle.recovery.proofs.Follows.{Passed}
 
 -- the drive, what is held between calls (nothing before the first start and after a cut), the book of frames, and
 -- what was kept before a header write that is not flushed
@@ -48,7 +49,7 @@ told (start m) a b = onDone a (bookStart b) b
 told (change ws) a b = onDone a (bookChange ws b) b
 told snapshot a b = onDone a (bookSnapshot b) b
 told pageOut a b = b
-told advance a b = onWrote a b
+told (advance n) a b = onWrote a b
 
 -- what was kept before a header write that is not flushed
 abbrev pub beforeTold : FrameAnswer → FrameBook → Option Contents → Option Contents
@@ -73,31 +74,32 @@ lentTo (start m) w = some (startLent m (seen (w .drive)))
 lentTo (change ws) w = w .held
 lentTo snapshot w = w .held
 lentTo pageOut w = w .held
-lentTo advance w = w .held
+lentTo (advance n) w = w .held
 
--- the layer above changes home frames only, each with a whole block of bytes
-abbrev pub Asked : FrameCall → Lent → Type 0
-Asked (start m) l = Unit {0}
-Asked (change ws) l = All (WholeFrame (l .store .geometry .area) (l .store .geometry .blocks)) ws
-Asked snapshot l = Unit {0}
-Asked pageOut l = Unit {0}
-Asked advance l = Unit {0}
+-- The layer above changes home frames only, each with a whole block of bytes, and hands down every frame that a change makes needed. It passes over committed entries
+-- only of frames that are not needed.
+abbrev pub Asked : Needs → FrameCall → Lent → FrameBook → Type 0
+Asked needed (start m) l b = Unit {0}
+Asked needed (change ws) l b = All (WholeFrame (l .store .geometry .area) (l .store .geometry .blocks)) ws × Brings needed (l .store .geometry .area) (l .store .geometry .blocks) ws (b .present)
+Asked needed snapshot l b = Unit {0}
+Asked needed pageOut l b = Unit {0}
+Asked needed (advance n) l b = Passed needed (b .kept) n (meaningOf l)
 
 -- a call, done or refused, by its own promise; a cut in a call, whose write is then one of those that are not
 -- flushed; a cut between calls. After a cut nothing is unflushed, and the book is told whether the header write being
 -- made or not flushed, if any, reached the card.
-pub data FrameStep : FrameWorld → FrameWorld → Type 0 where
-  called : (c : FrameCall) (w : FrameWorld) (l l′ : Lent) (a : FrameAnswer) → lentTo c w ≡ some l → Asked c l → FrameKept c l a l′
-      → FrameStep w (record { drive = driveTold a (outcome c l .write) (w .drive); held = some l′; book = told c a (w .book); before = beforeTold a (w .book) (w .before) })
-  cutWithin : (c : FrameCall) (w : FrameWorld) (l : Lent) (card′ : List ℕ) (reached : Bool) → lentTo c w ≡ some l → Asked c l
+pub data FrameStep (needed : Needs) : FrameWorld → FrameWorld → Type 0 where
+  called : (c : FrameCall) (w : FrameWorld) (l l′ : Lent) (a : FrameAnswer) → lentTo c w ≡ some l → Asked needed c l (w .book) → FrameKept c l a l′
+      → FrameStep needed w (record { drive = driveTold a (outcome c l .write) (w .drive); held = some l′; book = told c a (w .book); before = beforeTold a (w .book) (w .before) })
+  cutWithin : (c : FrameCall) (w : FrameWorld) (l : Lent) (card′ : List ℕ) (reached : Bool) → lentTo c w ≡ some l → Asked needed c l (w .book)
       → Cut Spoilt (w .drive) (outcome c l .write) card′ → ReachedIs (written (outcome c l .write) (w .drive) .since) card′ reached
-      → FrameStep w (record { drive = settled card′; held = none; book = bookCut (w .before) reached (w .book); before = none })
+      → FrameStep needed w (record { drive = settled card′; held = none; book = bookCut (w .before) reached (w .book); before = none })
   cutBetween : (w : FrameWorld) (card′ : List ℕ) (reached : Bool) → Cut Spoilt (w .drive) none card′ → ReachedIs (w .drive .since) card′ reached
-      → FrameStep w (record { drive = settled card′; held = none; book = bookCut (w .before) reached (w .book); before = none })
+      → FrameStep needed w (record { drive = settled card′; held = none; book = bookCut (w .before) reached (w .book); before = none })
 
-pub data FrameRun : FrameWorld → FrameWorld → Type 0 where
-  stays : (w : FrameWorld) → FrameRun w w
-  goes : (u v w : FrameWorld) → FrameRun u v → FrameStep v w → FrameRun u w
+pub data FrameRun (needed : Needs) : FrameWorld → FrameWorld → Type 0 where
+  stays : (w : FrameWorld) → FrameRun needed w w
+  goes : (u v w : FrameWorld) → FrameRun needed u v → FrameStep needed v w → FrameRun needed u w
 
 -- ---- the claims
 
@@ -122,18 +124,22 @@ pub record Serves (card : List ℕ) (l : Lent) : Type 0 where
   pub area-is : meaningOf l .area ≡ headerOn (blockAt card 0) .area
   pub ranges-is : meaningOf l .ranges ≡ headerRanges (headerOn (blockAt card 0))
 
--- after any list of calls and cuts a start accepts, writes nothing, and loads show what the book keeps
-abbrev pub FramesRecover : Type 0
-FramesRecover = (m₀ card : List ℕ) → firstNo (startAsks m₀ card) ≡ 0 → (w : FrameWorld) → FrameRun (firstWorld m₀ card) w
+-- after any list of calls and cuts a start accepts, writes nothing, and loads of needed frames show what the book keeps
+abbrev pub FramesRecover : Needs → Type 0
+FramesRecover needed = (m₀ card : List ℕ) → firstNo (startAsks m₀ card) ≡ 0 → (w : FrameWorld) → FrameRun needed (firstWorld m₀ card) w
     → (m : List ℕ) → whole 4 64 (length m) ≡ true → (a : FrameAnswer) (l : Lent) → FrameKept (start m) (startLent m (seen (w .drive))) a l
-    → (a ≡ done) × (l .card ≡ seen (w .drive)) × Serves card l × ((f : ℕ) (x : List ℕ) → HomeFrame card f → Loads l f x → x ≡ w .book .kept f)
+    → (a ≡ done) × (l .card ≡ seen (w .drive)) × Serves card l × ((f : ℕ) (x : List ℕ) → HomeFrame card f → needed (w .book .kept) f ≡ true → Loads l f x → x ≡ w .book .kept f)
 
--- where a record is held that passes questions 1 to 3, loads show what is present
-abbrev pub FramesPresent : Type 0
-FramesPresent = (m₀ card : List ℕ) → firstNo (startAsks m₀ card) ≡ 0 → (w : FrameWorld) → FrameRun (firstWorld m₀ card) w
-    → (l : Lent) → w .held ≡ some l → firstNo (common l) ≡ 0 → (f : ℕ) (x : List ℕ) → HomeFrame card f → Loads l f x → x ≡ w .book .present f
+-- where a record is held that passes questions 1 to 3, loads of needed frames show what is present, and those of the committed generation what is kept
+abbrev pub FramesPresent : Needs → Type 0
+FramesPresent needed = (m₀ card : List ℕ) → firstNo (startAsks m₀ card) ≡ 0 → (w : FrameWorld) → FrameRun needed (firstWorld m₀ card) w
+    → (l : Lent) → w .held ≡ some l → firstNo (common l) ≡ 0 → (f : ℕ) (x : List ℕ) → HomeFrame card f → needed (w .book .present) f ≡ true → Loads l f x → x ≡ w .book .present f
+
+abbrev pub FramesCommitted : Needs → Type 0
+FramesCommitted needed = (m₀ card : List ℕ) → firstNo (startAsks m₀ card) ≡ 0 → (w : FrameWorld) → FrameRun needed (firstWorld m₀ card) w
+    → (l : Lent) → w .held ≡ some l → firstNo (common l) ≡ 0 → (f : ℕ) (x : List ℕ) → HomeFrame card f → needed (w .book .kept) f ≡ true → LoadsCommitted l f x → x ≡ w .book .kept f
 
 -- what is held serves, unless it is the record of zeros that a refused start handed out; its card is the world's
-abbrev pub FramesHold : Type 0
-FramesHold = (m₀ card : List ℕ) → firstNo (startAsks m₀ card) ≡ 0 → (w : FrameWorld) → FrameRun (firstWorld m₀ card) w
+abbrev pub FramesHold : Needs → Type 0
+FramesHold needed = (m₀ card : List ℕ) → firstNo (startAsks m₀ card) ≡ 0 → (w : FrameWorld) → FrameRun needed (firstWorld m₀ card) w
     → (l : Lent) → w .held ≡ some l → ((l .store ≡ zeroStore) ⊎ Serves card l) × (l .card ≡ seen (w .drive))

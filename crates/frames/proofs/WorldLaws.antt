@@ -18,15 +18,15 @@ use Rattle.card.specs.Question.{Question, firstNo}
 use Rattle.card.specs.Range.{Range}
 use Rattle.frames.proofs.KeepLaws.{done-tells}
 use Rattle.frames.proofs.ReadyLaws.{whole-said, common-both}
-use Rattle.frames.specs.Promise.{Lent, meaningOf, common, FrameCall, start, change, snapshot, pageOut, advance, FrameAnswer, refused, asks, advanceAnswer, advanceWrite, advanced, doneAnswer, doneWrite, after, FrameKept}
+use Rattle.frames.specs.Promise.{Lent, meaningOf, common, FrameCall, start, change, snapshot, pageOut, advance, FrameAnswer, refused, asks, advanceAnswer, advanceWrite, advanced, doneAnswer, doneWrite, after, FrameKept, past}
 use Rattle.frames.proofs.Run.{told, Asked}
 use Rattle.frames.proofs.Zeros.{zeros-first}
 use Rattle.record.specs.Holds.{holdsTogether}
 use Rattle.record.specs.Meaning.{zeroStore}
 use Rattle.recovery.proofs.Follows.{Stored, Follows, follows-card}
-use Rattle.recovery.proofs.FollowsStep.{follows-change, follows-snapshot, follows-advance, follows-out}
+use Rattle.recovery.proofs.FollowsStep.{follows-change, follows-snapshot, follows-advance, follows-out, follows-pass}
 use Rattle.recovery.proofs.FrameTheorem.{stored-start}
-use Rattle.recovery.specs.Book.{FrameBook, WholeFrame}
+use Rattle.recovery.specs.Book.{FrameBook, WholeFrame, Needs, Brings}
 use Rattle.recovery.specs.Questions.{startAsks, heldAsks, roomAsks, snapshotAsks, pageOutAsks, given, advanceAsks}
 use Rattle.recovery.specs.State.{State}
 use Rattle.recovery.specs.Step.{afterChange, afterSnapshot, Kind, page, directory, trailer, migration, header, flush, afterKind, advanceDue, afterPageOut, startState}
@@ -44,7 +44,7 @@ told-refused (start m) n b = refl
 told-refused (change ws) n b = refl
 told-refused snapshot n b = refl
 told-refused pageOut n b = refl
-told-refused advance n b = refl
+told-refused (advance k) n b = refl
 
 -- ---- questions 1 to 3
 
@@ -96,7 +96,7 @@ LentMemory (start m) l = l .memory ≡ m
 LentMemory (change ws) l = Unit {0}
 LentMemory snapshot l = Unit {0}
 LentMemory pageOut l = Unit {0}
-LentMemory advance l = Unit {0}
+LentMemory (advance n) l = Unit {0}
 
 own-memory : (l : Lent) (own : List Question) (n : ℕ) → n ≡ l .store .frames → firstNo (common l ++ own) ≡ 0 → MemorySaid (length (l .memory)) n
 own-memory l own n e h = rw e (common-memory l (common-both (l .store) (length (l .memory)) (length (l .card)) own h .0))
@@ -109,7 +109,7 @@ after-memory (start m) l o h =
 after-memory (change ws) l o h = own-memory l (roomAsks ws (meaningOf l)) _ refl h
 after-memory snapshot l o h = own-memory l (snapshotAsks (meaningOf l)) _ refl h
 after-memory pageOut l o h = own-memory l (pageOutAsks (meaningOf l)) _ (out-frames (meaningOf l)) h
-after-memory advance l o h = own-memory l (advanceAsks (meaningOf l)) _ (advanced-frames (advanceDue (meaningOf l)) (meaningOf l)) h
+after-memory (advance n) l o h = own-memory l (advanceAsks (meaningOf (past n l))) _ (advanced-frames (advanceDue (meaningOf (past n l))) (meaningOf (past n l))) h
 
 -- it passes questions 1 and 2, whatever record the call was lent
 pub passes-again : (c : FrameCall) (l l′ : Lent) (a : FrameAnswer) → LentMemory c l → FrameKept c l a l′ → firstNo (asks c l) ≡ 0
@@ -121,25 +121,25 @@ passes-again c l l′ a o p e =
 -- ---- what is held, and what is lent
 
 -- the record of zeros, or one that follows the book and passes questions 1 to 3
-pub data Standing (blocks area : ℕ) (ranges : List Range) (l : Lent) (b : FrameBook) : Type 0 where
-  idle : l .store ≡ zeroStore → Stored blocks area ranges (l .card) (b .kept) → Standing blocks area ranges l b
-  live : Follows blocks area ranges (meaningOf l) (l .card) b → firstNo (common l) ≡ 0 → Standing blocks area ranges l b
+pub data Standing (needed : Needs) (blocks area : ℕ) (ranges : List Range) (l : Lent) (b : FrameBook) : Type 0 where
+  idle : l .store ≡ zeroStore → Stored needed blocks area ranges (l .card) (b .kept) → Standing needed blocks area ranges l b
+  live : Follows needed blocks area ranges (meaningOf l) (l .card) b → firstNo (common l) ≡ 0 → Standing needed blocks area ranges l b
 
-module _ (blocks area : ℕ) (ranges : List Range) where
-  standing-follows : (l : Lent) (b : FrameBook) → Standing blocks area ranges l b → firstNo (common l) ≡ 0 → Follows blocks area ranges (meaningOf l) (l .card) b
+module _ (needed : Needs) (blocks area : ℕ) (ranges : List Range) where
+  standing-follows : (l : Lent) (b : FrameBook) → Standing needed blocks area ranges l b → firstNo (common l) ≡ 0 → Follows needed blocks area ranges (meaningOf l) (l .card) b
   standing-follows l b (idle z k) h = absurd (zeros-refused l z h)
   standing-follows l b (live f g) h = f
 
   -- start is lent a card without a record, every other call what is held
   abbrev pub LentOk : FrameCall → Lent → FrameBook → Type 0
-  LentOk (start m) l b = (l .memory ≡ m) × Stored blocks area ranges (l .card) (b .kept)
-  LentOk (change ws) l b = Standing blocks area ranges l b
-  LentOk snapshot l b = Standing blocks area ranges l b
-  LentOk pageOut l b = Standing blocks area ranges l b
-  LentOk advance l b = Standing blocks area ranges l b
+  LentOk (start m) l b = (l .memory ≡ m) × Stored needed blocks area ranges (l .card) (b .kept)
+  LentOk (change ws) l b = Standing needed blocks area ranges l b
+  LentOk snapshot l b = Standing needed blocks area ranges l b
+  LentOk pageOut l b = Standing needed blocks area ranges l b
+  LentOk (advance n) l b = Standing needed blocks area ranges l b
 
   -- a record that follows the book passes questions 1 to 3 if it passes 1 and 2
-  follows-common : (l : Lent) (b : FrameBook) → Follows blocks area ranges (meaningOf l) (l .card) b → MemorySaid (length (l .memory)) (l .store .frames) → holdsTogether (l .store) ≡ true
+  follows-common : (l : Lent) (b : FrameBook) → Follows needed blocks area ranges (meaningOf l) (l .card) b → MemorySaid (length (l .memory)) (l .store .frames) → holdsTogether (l .store) ≡ true
       → firstNo (common l) ≡ 0
   unfolding heldAsks
   follows-common l b f first second =
@@ -157,37 +157,39 @@ module _ (blocks area : ℕ) (ranges : List Range) where
     lent-memory (change ws) o = tt
     lent-memory snapshot o = tt
     lent-memory pageOut o = tt
-    lent-memory advance o = tt
+    lent-memory (advance n) o = tt
 
     -- done
-    own-follows : (own : List Question) → Standing blocks area ranges l b → firstNo (common l ++ own) ≡ 0 → Follows blocks area ranges (meaningOf l) (l .card) b × (firstNo own ≡ 0)
+    own-follows : (own : List Question) → Standing needed blocks area ranges l b → firstNo (common l ++ own) ≡ 0 → Follows needed blocks area ranges (meaningOf l) (l .card) b × (firstNo own ≡ 0)
     own-follows own o h = let q = common-both (l .store) (length (l .memory)) (length (l .card)) own h in (standing-follows l b o (q .0), q .1)
 
-    lent-done : (c : FrameCall) → LentOk c l b → Asked c l → firstNo (asks c l) ≡ 0 → Follows blocks area ranges (after c l) (putDown (doneWrite c l) (l .card)) (told c (doneAnswer c l) b)
+    lent-done : (c : FrameCall) → LentOk c l b → Asked needed c l b → firstNo (asks c l) ≡ 0 → Follows needed blocks area ranges (after c l) (putDown (doneWrite c l) (l .card)) (told c (doneAnswer c l) b)
     unfolding asks after doneWrite doneAnswer told advanced advanceWrite advanceAnswer
     lent-done (start m) o asked h = stored-start blocks area ranges (l .card) b (o .1) m
     lent-done (change ws) o asked h =
         let q = own-follows (roomAsks ws (meaningOf l)) o h in
         follows-change blocks area ranges (meaningOf l) (l .card) b (q .0) ws
-        (subst (λ (n : ℕ). All (WholeFrame n blocks) ws) (q .0 .area-is) (subst (λ (n : ℕ). All (WholeFrame (l .store .geometry .area) n) ws) (q .0 .blocks-is) asked)) (q .1)
+        (subst (λ (n : ℕ). All (WholeFrame n blocks) ws) (q .0 .area-is) (subst (λ (n : ℕ). All (WholeFrame (l .store .geometry .area) n) ws) (q .0 .blocks-is) (asked .0)))
+        (subst (λ (n : ℕ). Brings needed n blocks ws (b .present)) (q .0 .area-is) (subst (λ (n : ℕ). Brings needed (l .store .geometry .area) n ws (b .present)) (q .0 .blocks-is) (asked .1))) (q .1)
     lent-done snapshot o asked h =
         let q = own-follows (snapshotAsks (meaningOf l)) o h in
         follows-snapshot blocks area ranges (meaningOf l) (l .card) b (q .0) (q .1)
     lent-done pageOut o asked h =
         let q = own-follows (pageOutAsks (meaningOf l)) o h in
         follows-out blocks area ranges (meaningOf l) (l .card) b (q .0) (q .1)
-    lent-done advance o asked h =
-        let q = own-follows (advanceAsks (meaningOf l)) o h in
-        let d = advance-due (meaningOf l) (q .1) in
-        rw (d .1) (follows-advance blocks area ranges (meaningOf l) (l .card) b (q .0) (d .0) (d .1))
+    lent-done (advance n) o asked h =
+        let q = own-follows (advanceAsks (meaningOf (past n l))) o h in
+        let d = advance-due (meaningOf (past n l)) (q .1) in
+        let f = follows-pass blocks area ranges (meaningOf l) (l .card) b (q .0) n asked in
+        rw (d .1) (follows-advance blocks area ranges (meaningOf (past n l)) (l .card) b f (d .0) (d .1))
 
     -- ---- with its promise
 
     module _ (c : FrameCall) (o : LentOk c l b) where
-      pub done-follows : Asked c l → (l′ : Lent) (a : FrameAnswer) → FrameKept c l a l′ → firstNo (asks c l) ≡ 0 → Follows blocks area ranges (meaningOf l′) (l′ .card) (told c a b)
+      pub done-follows : Asked needed c l b → (l′ : Lent) (a : FrameAnswer) → FrameKept c l a l′ → firstNo (asks c l) ≡ 0 → Follows needed blocks area ranges (meaningOf l′) (l′ .card) (told c a b)
       done-follows asked l′ a p e = let d = done-keeps c l l′ a p e in rw (p .meaning e, d .0, d .1) (lent-done c o asked e)
 
-      pub done-common : Asked c l → (l′ : Lent) (a : FrameAnswer) → FrameKept c l a l′ → firstNo (asks c l) ≡ 0 → firstNo (common l′) ≡ 0
+      pub done-common : Asked needed c l b → (l′ : Lent) (a : FrameAnswer) → FrameKept c l a l′ → firstNo (asks c l) ≡ 0 → firstNo (common l′) ≡ 0
       done-common asked l′ a p e =
           let q = passes-again c l l′ a (lent-memory c o) p e in
           follows-common l′ (told c a b) (done-follows asked l′ a p e) (q .0) (q .1)

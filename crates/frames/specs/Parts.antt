@@ -2,7 +2,7 @@
 -- Assumes nothing.
 use Prim.Native.Nat.{ℕ, _+_, _*_, _≤_, _<_}
 use lib.ListN.{length, getD}
-use mathlib.Core.Bool.{true, false, cond}
+use mathlib.Core.Bool.{Bool, true, false, cond}
 use mathlib.Core.List.{List, [], _∷_}
 use mathlib.Core.Logic.{_≢_}
 use mathlib.Core.Path.{_≡_}
@@ -28,7 +28,7 @@ use Rattle.recovery.specs.Contents.{FrameBytes, overlay, storedFrames}
 use Rattle.recovery.specs.Directory.{Note, dirOf}
 use Rattle.recovery.specs.Questions.{roomAsks}
 use Rattle.recovery.specs.State.{State, directoryOf, waitingFrames, readFrame}
-use Rattle.recovery.specs.Step.{afterChange, Kind, kindWrite, afterKind, startState}
+use Rattle.recovery.specs.Step.{afterChange, Kind, kindWrite, afterKind, startState, migrating}
 use Rattle.recovery.specs.Sums.{placesNeeded, entriesNeeded}
 use Rattle.recovery.specs.Write.{BlockWrite}
 
@@ -49,6 +49,16 @@ pub record Writable (s : Store) (card : List ℕ) : Type 0 where
   pub card-long : length card ≡ 512 * s .geometry .blocks
   pub card-few : s .geometry .blocks ≤ 65536
   pub calm : s .phase ≢ 2
+
+-- the same without a word on flushes, for what only reads
+pub record Readable (s : Store) (card : List ℕ) : Type 0 where
+  pub together : holdsTogether s ≡ true
+  pub card-long : length card ≡ 512 * s .geometry .blocks
+  pub card-few : s .geometry .blocks ≤ 65536
+
+-- whether advance has come to migration; memory does not matter
+abbrev pub MigratingIs : Store → Bool → Type 0
+MigratingIs s r = (memory : List ℕ) → r ≡ migrating (stateOf s memory)
 
 -- a step on the record alone
 pub record StepDone (next : State → State) (s t : Store) : Type 0 where

@@ -15,7 +15,7 @@ use Rattle.record.specs.Meaning.{stateOf, zeroStore}
 use Rattle.record.specs.declared.store.Store.{Store}
 use Rattle.recovery.specs.Contents.{FrameBytes}
 use Rattle.recovery.specs.Questions.{startAsks, heldAsks, roomAsks, snapshotAsks, pageOutAsks, advanceAsks}
-use Rattle.recovery.specs.State.{State, readFrame}
+use Rattle.recovery.specs.State.{State, readFrame, committedFrame}
 use Rattle.recovery.specs.Step.{afterChange, afterSnapshot, Kind, page, directory, trailer, migration, header, flush, kindWrite, kindPut, afterKind, advanceDue, pageOutWrite, afterPageOut, startState}
 use Rattle.recovery.specs.Write.{BlockWrite, putDown}
 
@@ -27,6 +27,26 @@ pub record Lent : Type 0 where
 
 abbrev pub lent : Store → List ℕ → List ℕ → Lent
 lent s m c = record { store = s; memory = m; card = c }
+
+-- the record with its first n committed entries at home or passed over
+abbrev pub passing : ℕ → Store → Store
+passing n s = record {
+  frames = s .frames;
+  head = s .head;
+  geometry = s .geometry;
+  commit = s .commit;
+  first = s .first;
+  pages = s .pages;
+  committed = s .committed;
+  migrated = n;
+  pending = s .pending;
+  tail = s .tail;
+  current = s .current;
+  phase = s .phase;
+}
+
+abbrev pub past : ℕ → Lent → Lent
+past n l = lent (passing n (l .store)) (l .memory) (l .card)
 
 -- what the record means with that memory
 abbrev pub meaningOf : Lent → State
@@ -64,11 +84,12 @@ pub record Keeps {A : Type 0} (o : Outcome A) (back l : Lent) (a : A) (l′ : Le
 
 -- ---- the frame layer's calls
 
--- `change` is a change of frames, each with its new bytes, for the layer above
+-- `change` is a change of frames, each with its new bytes, for the layer above. `advance` is told by the layer above how many committed entries are home or passed over.
 pub data FrameCall : Type 0 where
   start : (memory : List ℕ) → FrameCall
   change : (frames : List FrameBytes) → FrameCall
-  snapshot pageOut advance : FrameCall
+  snapshot pageOut : FrameCall
+  advance : (passed : ℕ) → FrameCall
 
 pub data FrameAnswer : Type 0 where
   refused : (number : ℕ) → FrameAnswer
@@ -80,7 +101,7 @@ asks (start m) l = startAsks m (l .card)
 asks (change ws) l = common l ++ roomAsks ws (meaningOf l)
 asks snapshot l = common l ++ snapshotAsks (meaningOf l)
 asks pageOut l = common l ++ pageOutAsks (meaningOf l)
-asks advance l = common l ++ advanceAsks (meaningOf l)
+asks (advance n) l = common l ++ advanceAsks (meaningOf (past n l))
 
 unfoldable pub advanceAnswer : Option Kind → Lent → FrameAnswer
 advanceAnswer none l = refused 20
@@ -99,21 +120,21 @@ doneAnswer (start m) l = done
 doneAnswer (change ws) l = done
 doneAnswer snapshot l = done
 doneAnswer pageOut l = wrote page (pageOutWrite (meaningOf l) .block)
-doneAnswer advance l = advanceAnswer (advanceDue (meaningOf l)) l
+doneAnswer (advance n) l = advanceAnswer (advanceDue (meaningOf (past n l))) (past n l)
 
 unfoldable pub doneWrite : FrameCall → Lent → Option BlockWrite
 doneWrite (start m) l = none
 doneWrite (change ws) l = none
 doneWrite snapshot l = none
 doneWrite pageOut l = some (pageOutWrite (meaningOf l))
-doneWrite advance l = advanceWrite (advanceDue (meaningOf l)) l
+doneWrite (advance n) l = advanceWrite (advanceDue (meaningOf (past n l))) (past n l)
 
 unfoldable pub after : FrameCall → Lent → State
 after (start m) l = startState m (l .card)
 after (change ws) l = afterChange ws (meaningOf l)
 after snapshot l = afterSnapshot (meaningOf l)
 after pageOut l = afterPageOut (meaningOf l)
-after advance l = advanced (advanceDue (meaningOf l)) (meaningOf l)
+after (advance n) l = advanced (advanceDue (meaningOf (past n l))) (meaningOf (past n l))
 
 abbrev pub outcome : FrameCall → Lent → Outcome FrameAnswer
 outcome c l = outcomeOf (firstNo (asks c l)) (doneAnswer c l) (refused (firstNo (asks c l))) (doneWrite c l) (after c l)
@@ -124,7 +145,7 @@ handedBack (start m) l = lent zeroStore (l .memory) (l .card)
 handedBack (change ws) l = l
 handedBack snapshot l = l
 handedBack pageOut l = l
-handedBack advance l = l
+handedBack (advance n) l = l
 
 abbrev pub FrameKept : FrameCall → Lent → FrameAnswer → Lent → Type 0
 FrameKept c l a l′ = Keeps (outcome c l) (handedBack c l) l a l′
@@ -142,6 +163,10 @@ reported (M n) = wrote migration n
 reported (H n) = wrote header n
 reported (F n) = wrote flush n
 reported (Refused n) = refused n
+
+-- the bytes that the committed generation shows of a frame: its entry's block, or home
+abbrev pub LoadsCommitted : Lent → ℕ → List ℕ → Type 0
+LoadsCommitted l f x = x ≡ committedFrame (meaningOf l) (l .card) f
 
 -- a load of a frame fills x with the frame's newest bytes
 abbrev pub Loads : Lent → ℕ → List ℕ → Type 0

@@ -5,40 +5,63 @@ use super::answer::Advance;
 use super::answer::Advanced;
 use super::kind;
 use super::page_out;
-use super::question;
 use record::store::Store;
 ghost use mathlib.Core.Path.{_≡_};
+ghost use mathlib.Core.Bool.{true};
 ghost use mathlib.Core.Logic.{_≢_};
-ghost use Prim.Native.Nat.{_<_};
+ghost use Prim.Native.Nat.{_≤_, _<_};
 ghost use lib.ListN.{length};
 ghost use Rattle.card.specs.Question.{firstNo};
 ghost use Rattle.card.specs.Ring.{dirBlocks};
+ghost use Rattle.record.specs.Holds.{holdsTogether};
 ghost use Rattle.record.specs.Meaning.{waits};
-ghost use Rattle.frames.specs.Promise.{commonAsks, advance, lent, reported, FrameKept};
+ghost use Rattle.frames.specs.Parts.{MigratingIs};
+ghost use Rattle.frames.specs.Promise.{commonAsks, advance, passing, lent, reported, FrameKept};
 
-// With none pending.
-fn migration_due(s: Store, card: &mut [u8], memory: &[u8]) -> Advanced
-    requires { ⌜ (firstNo (commonAsks s (length (now memory)) (length (now card))) ≡ 0) × ((s .pending .count ≡ 0) × (s .phase ≢ 2)) ⌝ }
-    ensures { λ r. ⌜ FrameKept advance (lent s (now (memory .entry)) (now (card .entry))) (reported (r .answer)) (lent (r .store) (now (memory .entry)) (now (card .exit))) ⌝ }
+// Has advance come to migration? Until then none is passed over.
+pub fn migrating(s: Store) -> bool
+    requires { ⌜ holdsTogether s ≡ true ⌝ }
+    ensures { λ r. ⌜ MigratingIs s r ⌝ }
 {
-    if s.migrated < s.committed.count {
-        let w = kind::migrate(s, card);
-        let t = w.store;
-        return Advanced {
-            answer: Advance::M(w.block),
-            store: t,
-        };
+    if s.phase == 2 {
+        return false;
     }
+    if s.pending.count == 0 {
+        return true;
+    }
+    if s.pending.down < s.pending.taken {
+        return false;
+    }
+    (s.pending.count + 63) / 64 < s.tail
+}
+
+// The record with its first `passed` committed entries at home or passed over.
+fn pass(s: Store, passed: usize) -> Store
+    requires { ⌜ (holdsTogether s ≡ true) × ((s .migrated ≤ passed) × ((passed ≤ s .committed .count) × (s .phase ≢ 2))) ⌝ }
+    ensures { λ t. ⌜ (t ≡ passing passed s) × (holdsTogether t ≡ true) ⌝ }
+{
+    let mut t = s;
+    t.migrated = passed;
+    t
+}
+
+// With none pending, and an entry left to copy.
+fn migration_due(s: Store, card: &mut [u8], memory: &[u8]) -> Advanced
+    requires { ⌜ (firstNo (commonAsks s (length (now memory)) (length (now card))) ≡ 0) × ((s .pending .count ≡ 0) × ((s .migrated < s .committed .count) × (s .phase ≢ 2))) ⌝ }
+    ensures { λ r. ⌜ FrameKept (advance (s .migrated)) (lent s (now (memory .entry)) (now (card .entry))) (reported (r .answer)) (lent (r .store) (now (memory .entry)) (now (card .exit))) ⌝ }
+{
+    let w = kind::migrate(s, card);
+    let t = w.store;
     Advanced {
-        answer: Advance::Refused(20),
-        store: s,
+        answer: Advance::M(w.block),
+        store: t,
     }
 }
 
 // With a snapshot pending, directory and trailer down.
 fn header_due(s: Store, card: &mut [u8], memory: &[u8]) -> Advanced
     requires { ⌜ (firstNo (commonAsks s (length (now memory)) (length (now card))) ≡ 0) × ((waits (s .pending) ≡ 0) × ((0 < s .pending .count) × ((dirBlocks (s .pending .count) < s .tail) × (s .phase ≢ 2)))) ⌝ }
-    ensures { λ r. ⌜ FrameKept advance (lent s (now (memory .entry)) (now (card .entry))) (reported (r .answer)) (lent (r .store) (now (memory .entry)) (now (card .exit))) ⌝ }
+    ensures { λ r. ⌜ FrameKept (advance (s .migrated)) (lent s (now (memory .entry)) (now (card .entry))) (reported (r .answer)) (lent (r .store) (now (memory .entry)) (now (card .exit))) ⌝ }
 {
     if s.migrated < s.committed.count {
         let w = kind::migrate(s, card);
@@ -66,7 +89,7 @@ fn header_due(s: Store, card: &mut [u8], memory: &[u8]) -> Advanced
 // With a snapshot pending of which no frame waits.
 fn tail_due(s: Store, card: &mut [u8], memory: &[u8]) -> Advanced
     requires { ⌜ (firstNo (commonAsks s (length (now memory)) (length (now card))) ≡ 0) × ((waits (s .pending) ≡ 0) × ((0 < s .pending .count) × (s .phase ≢ 2))) ⌝ }
-    ensures { λ r. ⌜ FrameKept advance (lent s (now (memory .entry)) (now (card .entry))) (reported (r .answer)) (lent (r .store) (now (memory .entry)) (now (card .exit))) ⌝ }
+    ensures { λ r. ⌜ FrameKept (advance (s .migrated)) (lent s (now (memory .entry)) (now (card .entry))) (reported (r .answer)) (lent (r .store) (now (memory .entry)) (now (card .exit))) ⌝ }
 {
     let blocks = (s.pending.count + 63) / 64;
     if s.tail < blocks {
@@ -88,14 +111,11 @@ fn tail_due(s: Store, card: &mut [u8], memory: &[u8]) -> Advanced
     header_due(s, card, memory)
 }
 
-// Where no flush is owed.
-fn work_due(s: Store, card: &mut [u8], memory: &[u8]) -> Advanced
-    requires { ⌜ (firstNo (commonAsks s (length (now memory)) (length (now card))) ≡ 0) × (s .phase ≢ 2) ⌝ }
-    ensures { λ r. ⌜ FrameKept advance (lent s (now (memory .entry)) (now (card .entry))) (reported (r .answer)) (lent (r .store) (now (memory .entry)) (now (card .exit))) ⌝ }
+// With a snapshot pending, where no flush is owed.
+fn commit_due(s: Store, card: &mut [u8], memory: &[u8]) -> Advanced
+    requires { ⌜ (firstNo (commonAsks s (length (now memory)) (length (now card))) ≡ 0) × ((0 < s .pending .count) × (s .phase ≢ 2)) ⌝ }
+    ensures { λ r. ⌜ FrameKept (advance (s .migrated)) (lent s (now (memory .entry)) (now (card .entry))) (reported (r .answer)) (lent (r .store) (now (memory .entry)) (now (card .exit))) ⌝ }
 {
-    if s.pending.count == 0 {
-        return migration_due(s, card, memory);
-    }
     if s.pending.down < s.pending.taken {
         let w = page_out::pending(s, card, memory);
         let t = w.store;
@@ -107,17 +127,30 @@ fn work_due(s: Store, card: &mut [u8], memory: &[u8]) -> Advanced
     tail_due(s, card, memory)
 }
 
-// A flush that is owed comes before all else.
-pub fn advance(s: Store, card: &mut [u8], memory: &[u8]) -> Advanced
-    ensures { λ r. ⌜ FrameKept advance (lent s (now (memory .entry)) (now (card .entry))) (reported (r .answer)) (lent (r .store) (now (memory .entry)) (now (card .exit))) ⌝ }
+// Where no flush is owed.
+fn work_due(s: Store, card: &mut [u8], memory: &[u8], passed: usize) -> Advanced
+    requires { ⌜ (firstNo (commonAsks s (length (now memory)) (length (now card))) ≡ 0) × ((s .migrated ≤ passed) × ((passed ≤ s .committed .count) × (s .phase ≢ 2))) ⌝ }
+    ensures { λ r. ⌜ FrameKept (advance passed) (lent s (now (memory .entry)) (now (card .entry))) (reported (r .answer)) (lent (r .store) (now (memory .entry)) (now (card .exit))) ⌝ }
 {
-    let no = question::common(s, memory.len(), card.len());
-    if no != 0 {
-        return Advanced {
-            answer: Advance::Refused(no),
-            store: s,
-        };
+    let t = pass(s, passed);
+    if s.pending.count != 0 {
+        return commit_due(t, card, memory);
     }
+    if passed < s.committed.count {
+        return migration_due(t, card, memory);
+    }
+    Advanced {
+        answer: Advance::Refused(20),
+        store: s,
+    }
+}
+
+// A flush that is owed comes before all else. For a layer above that has asked questions 1 to 3, and tells how many committed entries are home or passed over: none is passed over
+// while a flush is owed.
+pub fn advance(s: Store, card: &mut [u8], memory: &[u8], passed: usize) -> Advanced
+    requires { ⌜ (firstNo (commonAsks s (length (now memory)) (length (now card))) ≡ 0) × ((s .migrated ≤ passed) × ((passed ≤ s .committed .count) × (s .phase ≡ 2 → passed ≡ s .migrated))) ⌝ }
+    ensures { λ r. ⌜ FrameKept (advance passed) (lent s (now (memory .entry)) (now (card .entry))) (reported (r .answer)) (lent (r .store) (now (memory .entry)) (now (card .exit))) ⌝ }
+{
     if s.phase == 2 {
         let t = kind::flush_owed(s);
         return Advanced {
@@ -125,5 +158,5 @@ pub fn advance(s: Store, card: &mut [u8], memory: &[u8]) -> Advanced
             store: t,
         };
     }
-    work_due(s, card, memory)
+    work_due(s, card, memory, passed)
 }

@@ -7,17 +7,18 @@ use card::ring;
 use record::list;
 use record::store::Store;
 ghost use mathlib.Core.Path.{_≡_};
-ghost use mathlib.Core.Bool.{true};
-ghost use Prim.Native.Nat.{_≤_, _<_};
+ghost use mathlib.Core.Bool.{true, false};
+ghost use mathlib.Core.List.{List};
+ghost use Prim.Native.Nat.{ℕ, _≤_, _<_};
 ghost use lib.ListN.{length};
 ghost use Rattle.card.specs.Question.{firstNo};
 ghost use Rattle.record.specs.Holds.{holdsTogether};
-ghost use Rattle.frames.specs.Promise.{commonAsks, lent, Loads};
-ghost use Rattle.frames.specs.Parts.{Located, committedBytes, pendingBytes, newestBytes};
+ghost use Rattle.frames.specs.Promise.{commonAsks, lent, Loads, LoadsCommitted};
+ghost use Rattle.frames.specs.Parts.{Located, Readable, committedBytes, pendingBytes, newestBytes};
 
 fn in_committed(s: Store, frame: u16) -> Found
     requires { ⌜ (holdsTogether s ≡ true) × (frame < s .geometry .blocks) ⌝ }
-    ensures { λ r. ⌜ Located s (committedBytes s frame) r ⌝ }
+    ensures { λ r. ⌜ Located s (committedBytes s frame) r × (r .memory ≡ false) ⌝ }
 {
     let frames = s.committed.frames;
     let i = list::find(&frames, s.committed.count, frame);
@@ -100,5 +101,15 @@ pub fn load<'a>(s: Store, card: &'a [u8], memory: &'a [u8], frame: usize) -> &'a
     if r.memory {
         return block::at(memory, at);
     }
+    block::at(card, at)
+}
+
+// The bytes that the committed generation shows of a frame, as a part of the card.
+pub fn committed(s: Store, card: &[u8], frame: usize) -> &[u8]
+    requires { ⌜ Readable s (now card) × (frame < s .geometry .blocks) ⌝ }
+    ensures { λ r. ⌜ ((memory : List ℕ) → LoadsCommitted (lent s memory (now (card .entry))) frame (now r)) × (length (now r) ≡ 512) ⌝ }
+{
+    let r = in_committed(s, number::short(frame));
+    let at = r.number;
     block::at(card, at)
 }

@@ -1,8 +1,8 @@
 -- The ledger keeps step with the state: asked, changed and written on alike, with bytes or without.
 -- Assumes nothing.
-use Prim.Native.Nat.{ℕ, zero, suc}
+use Prim.Native.Nat.{ℕ, zero, suc, _+_}
 use lib.Dec.{ltb}
-use lib.ListN.{length, replicate, set, length-set, length-append, length-replicate}
+use lib.ListN.{length, replicate, drop, set, length-set, length-append, length-replicate}
 use mathlib.Core.Bool.{Bool, true, false, cond}
 use mathlib.Core.List.{List, [], _∷_, _++_, tail}
 use mathlib.Core.Option.{Option, none, some}
@@ -14,7 +14,8 @@ use Rattle.recovery.specs.Contents.{FrameBytes}
 use Rattle.recovery.specs.Directory.{noteChange, turnOf}
 use Rattle.recovery.specs.Questions.{newPlaces, roomAsks, advanceAsks}
 use Rattle.recovery.specs.State.{Generation, State, places, entryCount, size, directoryOf, empty}
-use Rattle.recovery.specs.Step.{pendingTo, currentTo, queued, changeFrame, changeFrames, afterChange, afterSnapshot, Kind, page, directory, trailer, migration, header, flush, outOf, afterKind, migrationDue, advanceDue, afterPageOut}
+use Rattle.recovery.specs.Step.{pendingTo, currentTo, queued, changeFrame, changeFrames, afterChange, afterSnapshot, Kind, page, directory, trailer, migration, header, flush, outOf, afterKind, migrationDue, advanceDue, migrating, afterPageOut}
+use Rattle.recovery.specs.Sums.{leading, passedTo}
 
 -- changed frames by their numbers
 unfoldable pub blankFrames : List FrameBytes → List FrameBytes
@@ -90,6 +91,14 @@ module _ (s : State) where
   pub blank-due : advanceDue (blank s) ≡ advanceDue s
   unfolding advanceDue migrationDue blank blankGeneration
   blank-due = rw (long-blanks (length (s .pending .waiting)))
+
+  blank-migrating : migrating (blank s) ≡ migrating s
+  unfolding migrating blank blankGeneration
+  blank-migrating = rw (long-blanks (length (s .pending .waiting)))
+
+  pub blank-passed : (over : ℕ → Bool) → passedTo over (blank s) ≡ passedTo over s
+  unfolding passedTo blank
+  blank-passed over = ap (λ (t : Bool). s .migrated + cond t (leading over (drop (s .migrated) (s .committed .entries))) 0) blank-migrating
 
   pub blank-advanceAsks : advanceAsks (blank s) ≡ advanceAsks s
   unfolding advanceAsks

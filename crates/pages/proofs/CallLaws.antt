@@ -15,14 +15,14 @@ use Rattle.card.specs.Pot.{countAt, flagsAt, putFlags, isZero, clearZero}
 use Rattle.card.specs.Question.{Question, firstNo}
 use Rattle.card.specs.declared.range.Address.{Address}
 use Rattle.frames.proofs.KeepLaws.{numbered-no, numbered-done}
-use Rattle.frames.proofs.ReadyLaws.{common-passed}
+use Rattle.frames.proofs.ReadyLaws.{common-passed, common-refused}
 use Rattle.frames.specs.Parts.{framesWith, ChangeKept}
 use Rattle.frames.specs.Promise.{Lent, lent, meaningOf, common, FrameAnswer, FrameKept, numbered}
 use Rattle.frames.specs.declared.answer.Done.{Done}
 use Rattle.pages.proofs.AnswerLaws.{change-none, keeps-no, keeps-same, lifted}
 use Rattle.pages.proofs.NamedLaws.{Found, found-together, one-frame, two-frames, Stops, rest-asked, keyAsks, Keyed, keyed-asks}
 use Rattle.pages.specs.Page.{pageBytes, writeFrames, rescindPot, rescindFrames}
-use Rattle.pages.specs.Promise.{Call, start, key, read, write, rescind, snapshot, pageOut, advance, refused, done, counted, filled, answered, countedAs, atPlace, presentFrames, presentCount, writeChanges, rescindChanges, asks, frameCall, doneAnswer, refusal, Kept}
+use Rattle.pages.specs.Promise.{Call, start, key, read, write, rescind, snapshot, pageOut, advance, refused, done, counted, filled, answered, countedAs, atPlace, presentFrames, presentCount, writeChanges, rescindChanges, asks, frameCall, doneAnswer, refusal, Kept, passedOf}
 use Rattle.pages.specs.declared.answer.Count.the-variants.{Present, Refused}
 use Rattle.record.specs.declared.store.Store.{Store}
 use Rattle.recovery.specs.Contents.{FrameBytes}
@@ -44,9 +44,17 @@ module _ (l l′ : Lent) (a : FrameAnswer) where
   unfolding asks frames.asks frameCall doneAnswer frames.doneAnswer refusal answered
   page-out-kept k = lifted pageOut l l′ a k refl refl (λ n. refl)
 
-  pub advance-kept : FrameKept frames.advance l a l′ → Kept advance l (answered a) l′
+  pub advance-kept : FrameKept (frames.advance (passedOf l)) l a l′ → Kept advance l (answered a) l′
   unfolding asks frames.asks frameCall doneAnswer refusal answered
   advance-kept k = lifted advance l l′ a k refl refl (λ n. refl)
+
+-- advance asks 1 to 3 itself, and tells the frame layer how many entries are home or passed over
+pub advance-refused : (l : Lent) (n : ℕ) → n ≡ firstNo (common l) → n ≢ 0 → Kept advance l (answered (frames.refused n)) l
+unfolding asks frameCall refusal answered
+advance-refused l n e z = keeps-no advance l n (common-refused (l .store) (length (l .memory)) (length (l .card)) _ (λ q. z (e ∙ q)) ∙ sym e) z
+
+pub advance-kept-by : (l l′ : Lent) (a : FrameAnswer) (n : ℕ) → n ≡ passedOf l → FrameKept (frames.advance n) l a l′ → Kept advance l (answered a) l′
+advance-kept-by l l′ a n e k = advance-kept l l′ a (subst (λ (m : ℕ). FrameKept (frames.advance m) l a l′) e k)
 
 -- ---- key
 

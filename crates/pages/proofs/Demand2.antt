@@ -33,6 +33,7 @@ use Rattle.recovery.specs.State.{State, empty, readFrame}
 use Rattle.recovery.specs.Step.{startState}
 use Rattle.recovery.specs.Write.{BlockWrite, putDown}
 use Rattle.frames.specs.Promise as frames
+use Rattle.pages.specs.Needed.{needed, allNeeded}
 
 later : (c : Call) → ((m : List ℕ) → c ≡ start m → ⊥) → Later c
 later (start m) h = h m refl
@@ -48,7 +49,7 @@ later advance h = tt
 
 module _ (rs : List Range) (blocks area : ℕ) (full : blocks ≡ 1 + area + allBlocks rs) where
   -- each is lent what is held, and hands it back where it is refused
-  lent-held : (c : Call) (l : Lent) (b : FrameBook) → Later c → Standing blocks area rs l b → LentOk blocks area rs (frameCall c l) l b × (frames.handedBack (frameCall c l) l ≡ l)
+  lent-held : (c : Call) (l : Lent) (b : FrameBook) → Later c → Standing (needed rs area) blocks area rs l b → LentOk (needed rs area) blocks area rs (frameCall c l) l b × (frames.handedBack (frameCall c l) l ≡ l)
   unfolding frameCall
   lent-held (start m) l b k h = absurd k
   lent-held (key o) l b k h = (h, refl)
@@ -64,7 +65,7 @@ module _ (rs : List Range) (blocks area : ℕ) (full : blocks ≡ 1 + area + all
     abbrev Same : PlainOutcome → Type 0
     Same d = (a ≡ d .answer) × (l′ .card ≡ putDown (d .write) (l .card)) × InStep rs blocks area full l′ (d .next)
 
-    held : LentOk blocks area rs (frameCall c l) l (t .frames) × (frames.handedBack (frameCall c l) l ≡ l)
+    held : LentOk (needed rs area) blocks area rs (frameCall c l) l (t .frames) × (frames.handedBack (frameCall c l) l ≡ l)
     held = lent-held c l (t .frames) k (live (b .follows) (b .passes))
 
     done-one : firstNo (asks c l) ≡ 0 → Same (plainDone c t)
@@ -75,9 +76,9 @@ module _ (rs : List Range) (blocks area : ℕ) (full : blocks ≡ 1 + area + all
           q .0 ∙ g .answer-is,
           q .1 ∙ ap (λ (w : Option BlockWrite). putDown w (l .card)) (g .write-is),
           record {
-            passes = done-common blocks area rs l (t .frames) (frameCall c l) (held .0) (g .asked) l′ _ low (frames-asked l c e);
-            follows = subst (λ (fb : FrameBook). Follows blocks area rs (meaningOf l′) (l′ .card) fb) (g .frames-are)
-                (done-follows blocks area rs l (t .frames) (frameCall c l) (held .0) (g .asked) l′ _ low (frames-asked l c e));
+            passes = done-common (needed rs area) blocks area rs l (t .frames) (frameCall c l) (held .0) (g .asked) l′ _ low (frames-asked l c e);
+            follows = subst (λ (fb : FrameBook). Follows (needed rs area) blocks area rs (meaningOf l′) (l′ .card) fb) (g .frames-are)
+                (done-follows (needed rs area) blocks area rs l (t .frames) (frameCall c l) (held .0) (g .asked) l′ _ low (frames-asked l c e));
             ledger-is = g .ledger-is ∙ ap blank (sym (p .meaning e));
             phase-is = g .phase-is ∙ ap (λ (s : State). s .phase) (sym (p .meaning e));
             changed-is = g .changed-is ∙ ap someChange (sym (p .meaning e));
@@ -135,9 +136,13 @@ module _ (m card : List ℕ) (l₀ : Lent) (p : Kept (start m) (lent zeroStore m
   abbrev rs : List Range
   rs = headerRanges (headerOn (blockAt card 0))
 
-  stored : Stored blocks area rs card (readFrame (startState m card) card)
+  stored : Stored (needed rs area) blocks area rs card (readFrame (startState m card) card)
   unfolding asks
   stored = accepted-stored m card accepted
+
+  all-stored : Stored allNeeded blocks area rs card (readFrame (startState m card) card)
+  unfolding asks
+  all-stored = accepted-stored m card accepted
 
   state-is : meaningOf l₀ ≡ startState m card
   unfolding frameCall frames.after
@@ -154,14 +159,14 @@ module _ (m card : List ℕ) (l₀ : Lent) (p : Kept (start m) (lent zeroStore m
   first-step : InStep rs blocks area full l₀ (plainOf (startState m card) card)
   unfolding plainOf frameCall frames.doneAnswer told
   first-step = record {
-    passes = done-common blocks area rs was book (frames.start m) (refl, stored) tt l₀ _ low asked;
+    passes = done-common (needed rs area) blocks area rs was book (frames.start m) (refl, stored) tt l₀ _ low asked;
     follows = follows;
     ledger-is = ap blank (sym state-is);
     phase-is = unfold startState in (ap (λ (s : State). s .phase) (sym state-is));
     changed-is = unfold startState empty in (ap someChange (sym state-is));
     marked-is = unfold startState empty in (ap nonePending (sym state-is));
     rows-are = λ o q e. unfold startState atPlace in (rw e);
-    long = stored-long blocks area rs card _ stored;
+    long = λ f l h. stored-long blocks area rs card _ all-stored f l h refl;
   }
     where
       book : FrameBook
@@ -173,8 +178,8 @@ module _ (m card : List ℕ) (l₀ : Lent) (p : Kept (start m) (lent zeroStore m
       asked : firstNo (frames.asks (frames.start m) was) ≡ 0
       asked = frames-asked was (start m) accepted
 
-      follows : Follows blocks area rs (meaningOf l₀) (l₀ .card) book
-      follows = done-follows blocks area rs was book (frames.start m) (refl, stored) tt l₀ _ low asked
+      follows : Follows (needed rs area) blocks area rs (meaningOf l₀) (l₀ .card) book
+      follows = done-follows (needed rs area) blocks area rs was book (frames.start m) (refl, stored) tt l₀ _ low asked
 
 pub demand-2 : Demand2
 demand-2 m card l₀ p cs n as′ l calls =

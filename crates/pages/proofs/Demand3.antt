@@ -23,7 +23,7 @@ use Rattle.frames.proofs.Run.{startLent, stays, firstWorld, Serves}
 use Rattle.frames.specs.Promise.{Lent, lent, meaningOf, common, FrameAnswer, FrameKept}
 use Rattle.pages.proofs.AnswerLaws.{ownAsks, asked-own, change-none, block-done, kept-done, lowered}
 use Rattle.pages.proofs.FormatLaws.{format-area, format-ranges, format-accepted, format-shows, format-done}
-use Rattle.pages.proofs.RunLaws.{Beside, or-false, serves, address-is, page-shown, called-beside, run-beside, spoilt-run}
+use Rattle.pages.proofs.RunLaws.{Beside, or-false, serves, address-is, page-shown, called-beside, run-beside, spoilt-run, needs}
 use Rattle.pages.specs.Book.{Book, Event, formatBook, isDone, isFlush, told, bookAfter}
 use Rattle.pages.specs.Demand3.{World, Run, OfRanges, Shows, Demand3, Demand3Spoilt}
 use Rattle.pages.specs.Page.{Page, emptyPage, pageOf, formatCard}
@@ -36,6 +36,7 @@ use Rattle.recovery.specs.Step.{startState}
 use Rattle.recovery.specs.Write.{Drive, putAll, seen, Left, Spoilt}
 use Rattle.frames.proofs.KeepLaws as keep
 use Rattle.frames.specs.Promise as frames
+use Rattle.pages.specs.Needed.{allNeeded}
 
 -- the place of an OID by a card's header
 abbrev placeOn : List ℕ → ℕ → Lookup
@@ -79,7 +80,7 @@ module _ (m₀ card₀ : List ℕ) (accepted : firstNo (startAsks m₀ card₀) 
 
   module _ (w : World) (b : Book) (s : Beside m₀ card₀ accepted w b) (m : List ℕ) (memory : whole 4 64 (length m) ≡ true) where
     recovers : (a : FrameAnswer) (l : Lent) → FrameKept (frames.start m) (startLent m (seen (w .drive))) a l → (a ≡ frames.done) × (l .card ≡ seen (w .drive)) × Serves card₀ l
-    recovers a l k = let q = frames-recover m₀ card₀ accepted (s .frames) (s .run) m memory a l (rw (s .seen-is) k) in (q .0, q .1 ∙ s .seen-is, q .2)
+    recovers a l k = let q = frames-recover (needs m₀ card₀ accepted) m₀ card₀ accepted (s .frames) (s .run) m memory a l (rw (s .seen-is) k) in (q .0, q .1 ∙ s .seen-is, q .2)
 
     -- a refused start would keep the frame layer's promise too, and the frame theorem says of every start that keeps it that it is done
     start-passes : firstNo (asks (start m) (lent zeroStore m (seen (w .drive)))) ≡ 0
@@ -141,17 +142,19 @@ module _ (area : ℕ) (numbers before card : List ℕ) (k : FormatKept area numb
     first-pages : (o : ℕ) (p : Address) → placeOn card o ≡ Located p → pageOf (readFrame (startState m card) card) p ≡ emptyPage
     first-pages o p e = rw card-is (format-shows area numbers before format-passes o p (sym (place-same o) ∙ e) m)
 
+    first-long : (f : ℕ) → headerOn (blockAt card 0) .area < f → f < length card / 512 → length (readFrame (startState m card) card f) ≡ 512
+    first-long f a b = stored-long {needed = allNeeded} _ _ _ card _ (accepted-stored m card formatted) f a b refl
+
     first-beside : (v : Drive) → seen v ≡ card → Beside m card formatted (record { drive = v; held = none; complete = false }) formatBook
     unfolding putAll
     first-beside v e =
-        let long = stored-long _ _ _ card _ (accepted-stored m card formatted) in
         record {
           frames = firstWorld m card;
           run = stays _;
           seen-is = sym e;
           drive-is = λ q. absurd (false≢true q);
           held-is = refl;
-          same = record { long-present = long; long-marked = long; long-kept = long; present-is = first-pages; marked-is = first-pages; kept-is = first-pages; both-marked = tt };
+          same = record { long-present = first-long; long-marked = first-long; long-kept = first-long; present-is = first-pages; marked-is = first-pages; kept-is = first-pages; both-marked = tt };
           before-is = tt;
         }
 

@@ -39,6 +39,7 @@ use Rattle.recovery.specs.Questions.{startAsks}
 use Rattle.recovery.specs.State.{readFrame}
 use Rattle.recovery.specs.Step.{startState}
 use Rattle.frames.specs.Promise as frames
+use Rattle.pages.specs.Needed.{allNeeded}
 
 -- ---- the formatted card
 
@@ -99,7 +100,7 @@ module _ (area : ℕ) (numbers before : List ℕ) (ok : firstNo (formatAsks area
   card-long = format-long (length before / 512) area (rangesIn numbers) before long-before (passed .1)
 
   -- it shows its home blocks
-  format-keeps : Stored (length before / 512) area (rangesIn numbers) (formatCard area (rangesIn numbers) before) (blockAt (formatCard area (rangesIn numbers) before))
+  format-keeps : Stored allNeeded (length before / 512) area (rangesIn numbers) (formatCard area (rangesIn numbers) before) (blockAt (formatCard area (rangesIn numbers) before))
   format-keeps =
       let w = whole-tells 11 65536 (length before) (passed .0) in
       format-stored (length before / 512) area (rangesIn numbers) (formatCard area (rangesIn numbers) before) card-long (w .1 .0) (w .1 .1) (passed .1)
@@ -130,7 +131,7 @@ module _ (area : ℕ) (numbers before : List ℕ) (ok : firstNo (formatAsks area
         let card : List ℕ = formatCard area (rangesIn numbers) before in
         let b : FrameBook = record { present = blockAt card; marked = none; kept = blockAt card } in
         let follows = stored-start (length before / 512) area (rangesIn numbers) card b format-keeps m in
-        let reads = reads-present (length before / 512) area (rangesIn numbers) (startState m card) card (bookStart b) follows (p .pot) (omega (arith, within .pot-low)) (within .pot-high) in
+        let reads = reads-present (length before / 512) area (rangesIn numbers) (startState m card) card (bookStart b) follows (p .pot) (omega (arith, within .pot-low)) (within .pot-high) refl in
         fresh-page (readFrame (startState m card) card) p (reads ∙ pot-fresh) (within .entry-high)
 
 number-done : (n : ℕ) → done ≡ answered (numbered n) → n ≡ 0

@@ -8,27 +8,27 @@ use mathlib.Core.Bool.{Bool, true, false, cond, _||_}
 use mathlib.Core.List.{List, [], _∷_}
 use mathlib.Core.Logic.{_≢_}
 use mathlib.Core.Option.{some}
-use mathlib.Core.Path.{_≡_, refl, sym, _∙_}
+use mathlib.Core.Path.{_≡_, refl, ap, sym, _∙_, subst}
 use native.Mathlib.Omega.{arith}
 use Rattle.card.specs.Question.{firstNo}
 use Rattle.card.specs.Range.{Range}
 use Rattle.card.specs.Ring.{ringAt}
 use Rattle.card.specs.declared.range.Address.{Address}
-use Rattle.pages.proofs.BlankLaws.{blankFrames, blank-waits, blank-room, blank-due, blank-advanceAsks}
+use Rattle.pages.proofs.BlankLaws.{blankFrames, blank-waits, blank-room, blank-due, blank-passed, blank-advanceAsks}
 use Rattle.pages.specs.Page.{flagged, writeFrames, rescindFrames}
 use Rattle.pages.specs.Plain.{Row, Plain, blankGeneration, blank, touched, writeTouches, rescindTouches, isNone, phaseAfter, ledgerOf, plainAsks, plainOut, plainKind, plainPageOut}
 use Rattle.pages.specs.Promise.{pageOut}
-use Rattle.recovery.proofs.Follows.{Follows}
+use Rattle.recovery.proofs.Follows.{Follows, Facts, FactsOf, due-facts}
 use Rattle.recovery.proofs.FollowsStep.{some-waits}
-use Rattle.recovery.proofs.FrameTheorem.{pending-bytes, current-bytes, home-bytes, due-page, due-migration}
+use Rattle.recovery.proofs.FrameTheorem.{pending-bytes, current-bytes, home-bytes, due-page}
 use Rattle.recovery.proofs.SumLaws.{Distinct, one-entry, same-room, same-due, same-advance}
-use Rattle.recovery.specs.Book.{FrameBook, markedOr, bookWrote}
+use Rattle.recovery.specs.Book.{FrameBook, markedOr, bookWrote, Needs}
 use Rattle.recovery.specs.Contents.{Contents, FrameBytes}
 use Rattle.recovery.specs.Directory.{Note}
 use Rattle.recovery.specs.Questions.{roomAsks, pageOutAsks, advanceAsks}
 use Rattle.recovery.specs.State.{Generation, State, entryCount, directoryOf, empty, Phase, writing, flushed, owed}
-use Rattle.recovery.specs.Step.{pendingTo, currentTo, changeFrame, changeFrames, Kind, page, directory, trailer, migration, header, flush, outWrite, outOf, tailBytes, trailerBlockNo, nextMigration, kindWrite, afterFlush, afterKind, advanceDue, pageOutWrite, afterPageOut}
-use Rattle.recovery.specs.Sums.{notedIn, remainingWrites, firstOf, roomSums, advanceSums}
+use Rattle.recovery.specs.Step.{pendingTo, currentTo, changeFrame, changeFrames, Kind, page, directory, trailer, migration, header, flush, outWrite, outOf, tailBytes, trailerBlockNo, nextMigration, kindWrite, afterFlush, afterKind, advanceDue, migrating, pageOutWrite, afterPageOut, passTo}
+use Rattle.recovery.specs.Sums.{notedIn, remainingWrites, firstOf, roomSums, advanceSums, passedTo}
 
 -- ---- the frames that a call changes, by their numbers
 
@@ -142,11 +142,23 @@ module _ (s : State) (t : Plain) (ledger-is : t .ledger ≡ blank s) (phase-is :
   pub room-is : (ws touches : List FrameBytes) → blankFrames ws ≡ touches → Distinct touches → roomAsks ws s ≡ roomSums touches (t .ledger)
   room-is ws touches e d = rw ledger-is (sym (blank-room s ws) ∙ (rw e (same-room touches (blank s) d)))
 
-  pub due-is : firstOf (remainingWrites (ledgerOf t)) ≡ advanceDue s
-  due-is = rw account-is (same-due (blank s) ∙ blank-due s)
+  -- with the same frames passed over
+  pub passed-is : (over : ℕ → Bool) → passedTo over (ledgerOf t) ≡ passedTo over s
+  passed-is over = ap (passedTo over) account-is ∙ blank-passed s over
 
-  pub advance-is : advanceAsks s ≡ advanceSums (ledgerOf t)
-  advance-is = rw account-is (sym (blank-advanceAsks s) ∙ same-advance (blank s))
+  pub past-is : (n : ℕ) → passTo n (t .ledger) ≡ blank (passTo n s)
+  unfolding blank
+  past-is n = ap (passTo n) ledger-is
+
+  blank-past : (over : ℕ → Bool) → passTo (passedTo over (blank s)) (blank s) ≡ blank (passTo (passedTo over s) s)
+  unfolding blank
+  blank-past over = ap (λ (n : ℕ). passTo n (blank s)) (blank-passed s over)
+
+  pub due-is : (over : ℕ → Bool) → firstOf (remainingWrites over (ledgerOf t)) ≡ advanceDue (passTo (passedTo over s) s)
+  due-is over = rw account-is (same-due over (blank s) ∙ ap advanceDue (blank-past over) ∙ blank-due (passTo (passedTo over s) s))
+
+  pub advance-is : (over : ℕ → Bool) → advanceAsks (passTo (passedTo over s) s) ≡ advanceSums over (ledgerOf t)
+  advance-is over = rw account-is (sym (ap advanceAsks (blank-past over) ∙ blank-advanceAsks (passTo (passedTo over s) s)) ∙ same-advance over (blank s))
 
   pub waiting-is : pageOutAsks s ≡ plainAsks pageOut t
   unfolding pageOutAsks plainAsks blank
@@ -154,7 +166,7 @@ module _ (s : State) (t : Plain) (ledger-is : t .ledger ≡ blank s) (phase-is :
 
   -- ---- with its card, and the machine's frames: the block that is written
 
-  module _ (blocks area : ℕ) (rs : List Range) (c : List ℕ) (f : Follows blocks area rs s c (t .frames)) where
+  module _ {needed : Needs} (blocks area : ℕ) (rs : List Range) (c : List ℕ) (f : Follows needed blocks area rs s c (t .frames)) where
     pending-out : 0 < length (s .pending .waiting) → outWrite (s .area) (s .pending) ≡ plainOut (blankGeneration (s .pending)) (s .area) (markedOr (t .frames))
     unfolding blankGeneration
     pending-out h = λ i. record { block = ringAt (s .area) (s .pending .first) (s .pending .pagesDown); bytes = pending-bytes blocks area rs s c (t .frames) f h i }
@@ -172,11 +184,13 @@ module _ (s : State) (t : Plain) (ledger-is : t .ledger ≡ blank s) (phase-is :
         go true e = pending-out (ltb-true _ _ e)
         go false e = current-out (omega (arith, some-waits blocks area rs s c (t .frames) f ok, ltb-false 0 (length (s .pending .waiting)) e))
 
-    pub kind-is : (k : Kind) → advanceDue s ≡ some k → kindWrite k s c ≡ plainKind k t
+    pub kind-is : (k : Kind) → advanceDue s ≡ some k → (migrating s ≡ true → s .migrated < length (s .committed .entries) → needed (t .frames .kept) (nextMigration s .frame) ≡ true) → kindWrite k s c ≡ plainKind k t
     unfolding kindWrite plainKind blank blankGeneration directoryOf tailBytes trailerBlockNo nextMigration
-    kind-is page e = rw ledger-is (pending-out (due-page blocks area rs s c (t .frames) f e))
-    kind-is directory e = rw ledger-is
-    kind-is trailer e = rw ledger-is
-    kind-is migration e = rw ledger-is (λ i. record { block = nextMigration s .frame; bytes = home-bytes blocks area rs s c (t .frames) f (due-migration blocks area rs s c (t .frames) f e) i })
-    kind-is flush e = refl
-    kind-is header e = let one : 1 + s .commit ≡ suc (s .commit) = omega arith in rw (ledger-is, one)
+    kind-is page e m = rw ledger-is (pending-out (due-page blocks area rs s c (t .frames) f e))
+    kind-is directory e m = rw ledger-is
+    kind-is trailer e m = rw ledger-is
+    kind-is migration e m =
+        let h : Facts s migration = subst (FactsOf s) e (due-facts s) in
+        rw ledger-is (λ i. record { block = nextMigration s .frame; bytes = home-bytes blocks area rs s c (t .frames) f (h .0) (m (h .2) (h .0)) i })
+    kind-is flush e m = refl
+    kind-is header e m = let one : 1 + s .commit ≡ suc (s .commit) = omega arith in rw (ledger-is, one)

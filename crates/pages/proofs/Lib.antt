@@ -1,6 +1,8 @@
 -- Laws of the page layer, and the two demands.
 pub mod AnswerLaws
 pub mod RowLaws
+pub mod NeededLaws
+pub mod HomeLaws
 pub mod Represents
 pub mod PotsLaws
 pub mod FormatLaws

@@ -4,7 +4,7 @@ use Prim.Native.Nat.{ℕ, _+_, _≤_, _<_}
 use borrow.Author.Tests.{ltb-true, lt-ltb, ne-eqb}
 use lib.Dec.{eqb}
 use lib.ListN.{length}
-use mathlib.Core.Bool.{Bool, true, false, cond, false≢true}
+use mathlib.Core.Bool.{Bool, true, false, cond, not, false≢true}
 use mathlib.Core.List.{List, [], _∷_}
 use mathlib.Core.Logic.{_≢_}
 use mathlib.Core.Option.{Option, none, some}
@@ -20,26 +20,31 @@ use Rattle.card.specs.declared.range.Address.{Address}
 use Rattle.card.specs.declared.range.Lookup.{Lookup}
 use Rattle.card.specs.declared.range.Lookup.the-variants.{Located, Outside}
 use Rattle.frames.proofs.Run.{told, Asked}
-use Rattle.frames.specs.Promise.{Lent, meaningOf, common, FrameCall}
+use Rattle.frames.specs.Promise.{Lent, meaningOf, common, FrameCall, past}
 use Rattle.pages.proofs.AnswerLaws.{Later, ownAsks, found-place, write-passed, rescind-passed}
 use Rattle.pages.proofs.BlankLaws.{blankFrames, blank-change, blank-snapshot, blank-pageOut, blank-kind}
-use Rattle.pages.proofs.LedgerLaws.{write-touches, rescind-touches, touches-apart, nonePending, someChange, change-notes, out-keeps, kind-current, kind-marked, kind-phase, out-phase, room-is, due-is, advance-is, waiting-is, out-is, kind-is}
+use Rattle.pages.proofs.LedgerLaws.{write-touches, rescind-touches, touches-apart, nonePending, someChange, change-notes, out-keeps, kind-current, kind-marked, kind-phase, out-phase, room-is, due-is, advance-is, waiting-is, out-is, kind-is, passed-is, past-is}
 use Rattle.pages.proofs.Represents.{write-whole, rescind-whole, write-same, rescind-same, AsTable, Long, changes-long, in-p, updated}
 use Rattle.pages.proofs.RowLaws.{rescind-row, rescind-other, write-row, write-other}
 use Rattle.pages.specs.Book.{update, written, rescinded}
 use Rattle.pages.specs.Page.{Page, flagged, pageBytes, pageOf, writeFrames, rescindFrames}
-use Rattle.pages.specs.Plain.{Row, rowOf, Plain, blank, plainAddress, touched, writeTouches, rescindTouches, isNone, plainAsks, plainKind, PlainOutcome, answers, plainWrite, plainRescind, plainAdvance, plainDone}
-use Rattle.pages.specs.Promise.{Call, start, key, read, write, rescind, snapshot, pageOut, advance, Answer, done, counted, filled, wrote, answered, addressOf, atPlace, presentFrames, presentCount, writeChanges, rescindChanges, placed, asks, frameCall, doneAnswer}
+use Rattle.pages.specs.Plain.{Row, rowOf, Plain, blank, plainAddress, touched, writeTouches, rescindTouches, isNone, plainAsks, plainKind, PlainOutcome, answers, plainWrite, plainRescind, plainAdvance, plainDone, plainOver, plainPast, ledgerOf}
+use Rattle.pages.specs.Promise.{Call, start, key, read, write, rescind, snapshot, pageOut, advance, Answer, done, counted, filled, wrote, answered, addressOf, atPlace, presentFrames, presentCount, writeChanges, rescindChanges, placed, asks, frameCall, doneAnswer, committedFrames, over, passedOf}
 use Rattle.recovery.proofs.Follows.{Follows}
-use Rattle.recovery.proofs.FrameTheorem.{reads-present}
-use Rattle.recovery.specs.Book.{FrameBook, applyChanges, bookChange, bookWrote, WholeFrame}
+use Rattle.recovery.proofs.FrameTheorem.{reads-present, reads-committed}
+use Rattle.recovery.specs.Book.{FrameBook, applyChanges, bookChange, bookWrote, WholeFrame, Brings}
 use Rattle.recovery.specs.Contents.{Contents, FrameBytes}
 use Rattle.recovery.specs.Questions.{heldAsks, roomAsks, snapshotAsks, given, advanceAsks}
-use Rattle.recovery.specs.State.{entryCount, empty}
-use Rattle.recovery.specs.Step.{changeFrames, afterChange, afterSnapshot, Kind, page, directory, trailer, migration, header, flush, kindWrite, kindPut, advanceDue}
-use Rattle.recovery.specs.Sums.{roomSums}
+use Rattle.recovery.specs.State.{entryCount, empty, State, isOwed}
+use Rattle.recovery.specs.Step.{changeFrames, afterChange, afterSnapshot, Kind, page, directory, trailer, migration, header, flush, kindWrite, kindPut, advanceDue, migrating, nextMigration, passTo}
+use Rattle.recovery.specs.Sums.{roomSums, passedTo, remainingWrites, firstOf, advanceSums}
 use Rattle.recovery.specs.Write.{BlockWrite}
 use Rattle.frames.specs.Promise as frames
+use Rattle.pages.proofs.Represents as represents
+use Rattle.pages.specs.Needed.{pageAt, needed}
+use Rattle.pages.proofs.NeededLaws.{page-at, at-tells, pot-needed, page-needed, needed-same, write-brings, rescind-brings, not-true, not-false}
+use Rattle.recovery.proofs.SumLaws.{passed-over, passed-within, passed-next, passed-more, passed-owed}
+use Rattle.recovery.proofs.FollowsStep.{follows-pass}
 
 placed-same : (a : Lookup) (f h : Address → List Question) → ((p : Address) → a ≡ Located p → f p ≡ h p) → placed a f ≡ placed a h
 unfolding atPlace
@@ -63,7 +68,7 @@ module _ (rs : List Range) (blocks area : ℕ) (full : blocks ≡ 1 + area + all
   -- the machine's tables and tests are those of what is lent, which passes questions 1 to 3
   pub record InStep (l : Lent) (t : Plain) : Type 0 where
     pub passes : firstNo (common l) ≡ 0
-    pub follows : Follows blocks area rs (meaningOf l) (l .card) (t .frames)
+    pub follows : Follows (needed rs area) blocks area rs (meaningOf l) (l .card) (t .frames)
     pub ledger-is : t .ledger ≡ blank (meaningOf l)
     pub phase-is : t .phase ≡ meaningOf l .phase
     pub changed-is : t .changed ≡ someChange (meaningOf l)
@@ -74,7 +79,7 @@ module _ (rs : List Range) (blocks area : ℕ) (full : blocks ≡ 1 + area + all
   module _ (l : Lent) (t : Plain) (b : InStep l t) where
     -- a call that is done, as its frame call and its answer, and what the machine does: answer, block and tables are the same
     pub record Agrees (c : FrameCall) (a : Answer) (d : PlainOutcome) : Type 0 where
-      pub asked : Asked c l
+      pub asked : Asked (needed rs area) c l (t .frames)
       pub answer-is : a ≡ d .answer
       pub write-is : frames.doneWrite c l ≡ d .write
       pub frames-are : told c (frames.doneAnswer c l) (t .frames) ≡ d .next .frames
@@ -88,7 +93,7 @@ module _ (rs : List Range) (blocks area : ℕ) (full : blocks ≡ 1 + area + all
     unchanged : (a a′ : Answer) → a ≡ a′ → Agrees (frames.change []) a (answers a′ t)
     unfolding frames.doneWrite frames.doneAnswer frames.after told applyChanges afterChange changeFrames
     unchanged a a′ e = record {
-      asked = tt;
+      asked = (tt, λ f l h k x. x);
       answer-is = e;
       write-is = refl;
       frames-are = refl;
@@ -101,12 +106,12 @@ module _ (rs : List Range) (blocks area : ℕ) (full : blocks ≡ 1 + area + all
     }
 
     -- frames of one page change, and its row
-    changed : (ws touches : List FrameBytes) (o : ℕ) (x : Row) → blankFrames ws ≡ touches → All (WholeFrame area blocks) ws → 0 < entryCount (changeFrames ws (meaningOf l .current))
+    changed : (ws touches : List FrameBytes) (o : ℕ) (x : Row) → blankFrames ws ≡ touches → All (WholeFrame area blocks) ws → Brings (needed rs area) area blocks ws (t .frames .present) → 0 < entryCount (changeFrames ws (meaningOf l .current))
         → SameRows (applyChanges ws (t .frames .present)) (update o x (t .rows))
         → Agrees (frames.change ws) done (answers done (record { rows = update o x (t .rows); changed = true; phase = t .phase; ledger = afterChange touches (t .ledger); frames = bookChange ws (t .frames) }))
     unfolding frames.doneWrite frames.doneAnswer frames.after told
-    changed ws touches o x e whole noted rows = record {
-      asked = rw (b .follows .area-is, b .follows .blocks-is) whole;
+    changed ws touches o x e whole brings noted rows = record {
+      asked = rw (b .follows .area-is, b .follows .blocks-is) (whole, brings);
       answer-is = refl;
       write-is = refl;
       frames-are = refl;
@@ -134,11 +139,16 @@ module _ (rs : List Range) (blocks area : ℕ) (full : blocks ≡ 1 + area + all
       inside : Within (1 + area) blocks p
       inside = in-p rs blocks area full o p e
 
+      at-page : pageAt rs (1 + area) (p .page) ≡ Located p
+      at-page = page-at rs (1 + area) o p e
+
       pot-is : presentFrames l (p .pot) ≡ present (p .pot)
       pot-is = reads-present blocks area rs (meaningOf l) (l .card) (t .frames) (b .follows) (p .pot) (omega (arith, inside)) (omega (arith, inside))
+          (pot-needed rs area blocks full present (p .pot) (at-tells rs (1 + area) (p .page) p at-page .pot-is))
 
-      page-is : presentFrames l (p .page) ≡ present (p .page)
-      page-is = reads-present blocks area rs (meaningOf l) (l .card) (t .frames) (b .follows) (p .page) (omega (arith, inside)) (omega (arith, inside))
+      page-is : flagged present p ≡ false → presentFrames l (p .page) ≡ present (p .page)
+      page-is h = reads-present blocks area rs (meaningOf l) (l .card) (t .frames) (b .follows) (p .page) (omega (arith, inside)) (omega (arith, inside))
+          (page-needed rs area blocks full present (p .page) p at-page ∙ ap not h)
 
       row-page : pageOf present p ≡ t .rows o .page
       unfolding rowOf
@@ -149,8 +159,8 @@ module _ (rs : List Range) (blocks area : ℕ) (full : blocks ≡ 1 + area + all
       row-zero = ap (λ (x : Row). x .zero) (b .rows-are o p e)
 
       bytes-same : pageBytes (presentFrames l) p ≡ t .rows o .page .bytes
-      unfolding pageOf pageBytes
-      bytes-same = rw (pot-is, page-is) (ap (λ (x : Page). x .bytes) row-page)
+      unfolding pageOf
+      bytes-same = represents.bytes-same (presentFrames l) present p pot-is page-is ∙ ap (λ (x : Page). x .bytes) row-page
 
       count-same : presentCount l p ≡ t .rows o .page .count
       unfolding pageOf
@@ -208,13 +218,15 @@ module _ (rs : List Range) (blocks area : ℕ) (full : blocks ≡ 1 + area + all
             frames = bookChange (writeFrames present p at new) (t .frames);
           })))
           go true = unchanged done done refl
-          go false = changed (writeFrames present p at new) _ o _ (row-touches at new false) (write-whole area blocks present p inside pot-long page-long at new short) noted
+          go false = changed (writeFrames present p at new) _ o _ (row-touches at new false) (write-whole area blocks present p inside pot-long page-long at new short)
+              (write-brings rs area blocks full present p at-page two pot-long (inside .entry-high) at new) noted
               (rows-changed _ _ own (write-other present p two pot-long (inside .entry-high) at new))
 
       rescind-agrees : t .rows o .page .count < 4294967295 → Agrees (frames.change (rescindChanges l p)) done (answers done (plainRescind o t p))
       unfolding plainRescind
       rescind-agrees limit = rw rescind-frames
-          (changed (rescindFrames present p) (rescindTouches p) o _ (rescind-touches present p) (rescind-whole area blocks present p inside pot-long) noted
+          (changed (rescindFrames present p) (rescindTouches p) o _ (rescind-touches present p) (rescind-whole area blocks present p inside pot-long)
+          (rescind-brings rs area blocks full present p at-page two pot-long (inside .entry-high) few) noted
           (rows-changed _ _ own (rescind-other present p two pot-long (inside .entry-high))))
         where
           noted : 0 < entryCount (changeFrames (rescindFrames present p) (meaningOf l .current))
@@ -226,20 +238,57 @@ module _ (rs : List Range) (blocks area : ℕ) (full : blocks ≡ 1 + area + all
           own : rowOf (applyChanges (rescindFrames present p) present) p ≡ record { page = rescinded (t .rows o .page); zero = true }
           own = rescind-row present p two pot-long (inside .entry-high) few ∙ ap (λ (x : Page). record { page = rescinded x; zero = true }) row-page
 
-    advance-agrees : (due : Option Kind) → advanceDue (meaningOf l) ≡ due → given due ≡ true → Agrees frames.advance (answered (frames.advanceAnswer due l)) (plainAdvance due t)
+    -- ---- advance: what is passed over is the same
+
+    kept-over : (f : ℕ) → over l f ≡ not (needed rs area (t .frames .kept) f)
+    kept-over f = ap (λ (r : List Range). not (needed r (meaningOf l .area) (committedFrames l) f)) (b .follows .ranges-is) ∙ ap (λ (a : ℕ). not (needed rs a (committedFrames l) f)) (b .follows .area-is)
+        ∙ ap not (needed-same rs area blocks full (committedFrames l) (t .frames .kept) (λ g low high x. reads-committed blocks area rs (meaningOf l) (l .card) (t .frames) (b .follows) g low high x) f)
+
+    ledger-ranges : (t .ledger .ranges ≡ rs) × (t .ledger .area ≡ area)
+    unfolding blank
+    ledger-ranges = (ap (λ (s : State). s .ranges) (b .ledger-is) ∙ b .follows .ranges-is, ap (λ (s : State). s .area) (b .ledger-is) ∙ b .follows .area-is)
+
+    over-is : over l ≡ plainOver t
+    over-is = λ i f. at f i
+      where
+        at : (f : ℕ) → over l f ≡ plainOver t f
+        at f = kept-over f ∙ sym (ap (λ (r : List Range). not (needed r (t .ledger .area) (t .frames .kept) f)) (ledger-ranges .0) ∙ ap (λ (a : ℕ). not (needed rs a (t .frames .kept) f)) (ledger-ranges .1))
+
+    passed-same : passedOf l ≡ passedTo (plainOver t) (ledgerOf t)
+    unfolding passedOf
+    passed-same = ap (λ (o : ℕ → Bool). passedTo o (meaningOf l)) over-is ∙ sym (passed-is (meaningOf l) t (b .ledger-is) (b .phase-is) (plainOver t))
+
+    advance-asked : Asked (needed rs area) (frames.advance (passedOf l)) l (t .frames)
+    unfolding passedOf
+    advance-asked = (
+      passed-within (over l) (meaningOf l) (b .follows .migrated-within),
+      (λ j x y. not-true _ (sym (kept-over (nextMigration (passTo j (meaningOf l)) .frame)) ∙ passed-over (over l) (meaningOf l) j x y)),
+      passed-more (over l) (meaningOf l),
+      passed-owed (over l) (meaningOf l),
+    )
+
+    -- the entry that is copied is of a frame that is needed
+    moves : migrating (meaningOf (past (passedOf l) l)) ≡ true → passedOf l < length (meaningOf l .committed .entries) → needed rs area (t .frames .kept) (nextMigration (meaningOf (past (passedOf l) l)) .frame) ≡ true
+    unfolding passedOf migrating
+    moves e m = not-false _ (sym (kept-over (nextMigration (passTo (passedTo (over l) (meaningOf l)) (meaningOf l)) .frame)) ∙ passed-next (over l) (meaningOf l) e m)
+
+    advance-agrees : (due : Option Kind) → advanceDue (meaningOf (past (passedOf l) l)) ≡ due → given due ≡ true → Agrees (frames.advance (passedOf l)) (answered (frames.advanceAnswer due (past (passedOf l) l))) (plainAdvance due (plainPast t))
     unfolding frames.doneWrite frames.doneAnswer frames.advanceWrite frames.advanceAnswer frames.after frames.advanced told answered plainAdvance
     advance-agrees none e h = absurd (false≢true h)
     advance-agrees (some k) e h =
-        let block-is : kindWrite k (meaningOf l) (l .card) ≡ plainKind k t = kind-is (meaningOf l) t (b .ledger-is) (b .phase-is) blocks area rs (l .card) (b .follows) k e in
+        let s′ : State = meaningOf (past (passedOf l) l) in
+        let ledger′ : plainPast t .ledger ≡ blank s′ = ap (λ (n : ℕ). passTo n (t .ledger)) (sym passed-same) ∙ past-is (meaningOf l) t (b .ledger-is) (b .phase-is) (passedOf l) in
+        let follows′ = follows-pass blocks area rs (meaningOf l) (l .card) (t .frames) (b .follows) (passedOf l) advance-asked in
+        let block-is : kindWrite k s′ (l .card) ≡ plainKind k (plainPast t) = kind-is s′ (plainPast t) ledger′ (b .phase-is) blocks area rs (l .card) follows′ k e moves in
         record {
-          asked = tt;
+          asked = advance-asked;
           answer-is = ap (λ (w : BlockWrite). wrote k (w .block)) block-is;
           write-is = rw e (ap (kindPut k) block-is);
           frames-are = rw e;
-          ledger-is = rw (e, b .ledger-is) (blank-kind (meaningOf l) k);
-          phase-is = rw (e, b .phase-is) (kind-phase k (meaningOf l));
-          changed-is = rw (e, kind-current k (meaningOf l)) (b .changed-is);
-          marked-is = rw e (kind-marked k (meaningOf l) (t .frames) (b .marked-is));
+          ledger-is = rw (e, ledger′) (blank-kind s′ k);
+          phase-is = rw (e, b .phase-is) (kind-phase k s′);
+          changed-is = rw (e, kind-current k s′) (b .changed-is);
+          marked-is = rw e (kind-marked k s′ (t .frames) (b .marked-is));
           rows-are = rw (wrote-present k (t .frames)) (b .rows-are);
           long = rw (wrote-present k (t .frames)) (b .long);
         }
@@ -258,6 +307,10 @@ module _ (rs : List Range) (blocks area : ℕ) (full : blocks ≡ 1 + area + all
         let noted : 0 < entryCount (meaningOf l .current) = ltb-true _ _ (passed-both 16 (someChange (meaningOf l)) _ rest .0) in
         ne-eqb (entryCount (meaningOf l .current)) 0 (omega (arith, noted))
 
+    advance-asks : advanceAsks (meaningOf (past (passedOf l) l)) ≡ advanceSums (plainOver t) (ledgerOf t)
+    unfolding passedOf
+    advance-asks = ap (λ (o : ℕ → Bool). advanceAsks (passTo (passedTo o (meaningOf l)) (meaningOf l))) over-is ∙ advance-is (meaningOf l) t (b .ledger-is) (b .phase-is) (plainOver t)
+
     -- ---- any call but start
 
     pub same-asks : (c : Call) → Later c → ownAsks c l ≡ plainAsks c t
@@ -269,7 +322,11 @@ module _ (rs : List Range) (blocks area : ℕ) (full : blocks ≡ 1 + area + all
     same-asks (rescind o n) k = rw (address-is o, plain-address o) (placed-same (locate rs (1 + area) o) _ _ (λ p e. rw (count-same o p e, rescind-room o p e)))
     same-asks snapshot k = snapshot-asks
     same-asks pageOut k = waiting-is (meaningOf l) t (b .ledger-is) (b .phase-is)
-    same-asks advance k = advance-is (meaningOf l) t (b .ledger-is) (b .phase-is)
+    same-asks advance k = advance-asks
+
+    due-same : firstOf (remainingWrites (plainOver t) (ledgerOf t)) ≡ advanceDue (meaningOf (past (passedOf l) l))
+    unfolding passedOf
+    due-same = due-is (meaningOf l) t (b .ledger-is) (b .phase-is) (plainOver t) ∙ sym (ap (λ (o : ℕ → Bool). advanceDue (passTo (passedTo o (meaningOf l)) (meaningOf l))) over-is)
 
     pub agrees : (c : Call) → Later c → firstNo (ownAsks c l) ≡ 0 → Agrees (frameCall c l) (doneAnswer c l) (plainDone c t)
     unfolding ownAsks asks heldAsks frameCall doneAnswer plainDone atPlace
@@ -312,5 +369,5 @@ module _ (rs : List Range) (blocks area : ℕ) (full : blocks ≡ 1 + area + all
       rows-are = b .rows-are;
       long = b .long;
     }
-    agrees advance k own = rw (due-is (meaningOf l) t (b .ledger-is) (b .phase-is))
-        (unfold frames.doneAnswer in (advance-agrees (advanceDue (meaningOf l)) refl (unfold advanceAsks in (passed-both 19 (given (advanceDue (meaningOf l))) [] own .0))))
+    agrees advance k own = rw due-same
+        (unfold frames.doneAnswer in (advance-agrees (advanceDue (meaningOf (past (passedOf l) l))) refl (unfold advanceAsks in (passed-both 19 (given (advanceDue (meaningOf (past (passedOf l) l)))) [] own .0))))

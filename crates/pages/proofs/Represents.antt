@@ -4,7 +4,7 @@ use Prim.Native.Nat.{ℕ, _+_, _/_, _≤_, _<_}
 use borrow.Author.Tests.{eqb-true, eq-eqb, ne-eqb}
 use lib.Dec.{eqb}
 use lib.ListN.{length}
-use mathlib.Core.Bool.{cond, Bool, true, false}
+use mathlib.Core.Bool.{Bool, true, false, cond}
 use mathlib.Core.List.{List, [], _∷_}
 use mathlib.Core.Logic.{_≢_}
 use mathlib.Core.Option.{Option, none, some, Option·getD}
@@ -17,7 +17,7 @@ use Rattle.card.proofs.PotLaws.{putFlags-length, putCount-length}
 use Rattle.card.proofs.RangeLaws.{geometry-tells}
 use Rattle.card.proofs.Test.{byTest}
 use Rattle.card.specs.Block.{blockAt}
-use Rattle.card.specs.Bytes.{All}
+use Rattle.card.specs.Bytes.{All, zeros}
 use Rattle.card.specs.Header.{headerOn}
 use Rattle.card.specs.Pot.{countAt}
 use Rattle.card.specs.Question.{firstNo, headerRanges}
@@ -32,6 +32,7 @@ use Rattle.recovery.proofs.FrameTheorem.{accepted-stored, stored-geometry}
 use Rattle.recovery.specs.Book.{FrameBook, markedOr, applyChanges, bookChange, bookSnapshot, bookStart, bookHeader, bookCut, WholeFrame}
 use Rattle.recovery.specs.Contents.{Contents, FrameBytes, overlay}
 use Rattle.recovery.specs.Questions.{startAsks}
+use Rattle.pages.specs.Needed.{allNeeded}
 
 -- ---- the frames of a call are whole home frames
 
@@ -54,9 +55,22 @@ module _ (area blocks : ℕ) (v : Contents) (p : Address) (inside : Within (1 + 
   )
 
 -- a call's frames are told by the two frames of its page
-pub write-same : (u v : Contents) (p : Address) (at : ℕ) (new : List ℕ) → u (p .pot) ≡ v (p .pot) → u (p .page) ≡ v (p .page) → writeFrames u p at new ≡ writeFrames v p at new
-unfolding writeFrames pageBytes
-write-same u v p at new e f = rw (e, f)
+-- the page's own frame counts only where the flag is clear
+pub bytes-same : (u v : Contents) (p : Address) → u (p .pot) ≡ v (p .pot) → (flagged v p ≡ false → u (p .page) ≡ v (p .page)) → pageBytes u p ≡ pageBytes v p
+unfolding pageBytes
+bytes-same u v p e f = rw e (go (flagged v p) f)
+  where
+    go : (t : Bool) → (t ≡ false → u (p .page) ≡ v (p .page)) → cond t zeros (u (p .page)) ≡ cond t zeros (v (p .page))
+    go true h = refl
+    go false h = h refl
+
+pub page-same : (u v : Contents) (p : Address) → u (p .pot) ≡ v (p .pot) → (flagged v p ≡ false → u (p .page) ≡ v (p .page)) → pageOf u p ≡ pageOf v p
+unfolding pageOf
+page-same u v p e f = rw (bytes-same u v p e f, e)
+
+pub write-same : (u v : Contents) (p : Address) (at : ℕ) (new : List ℕ) → u (p .pot) ≡ v (p .pot) → (flagged v p ≡ false → u (p .page) ≡ v (p .page)) → writeFrames u p at new ≡ writeFrames v p at new
+unfolding writeFrames
+write-same u v p at new e f = rw (bytes-same u v p e f, e)
 
 pub rescind-same : (u v : Contents) (p : Address) → u (p .pot) ≡ v (p .pot) → rescindFrames u p ≡ rescindFrames v p
 unfolding rescindFrames
@@ -66,7 +80,7 @@ rescind-same u v p e = rw e
 
 -- on a card that start accepts, header, area and ranges take all blocks
 pub accepted-full : (m card : List ℕ) → firstNo (startAsks m card) ≡ 0 → length card / 512 ≡ 1 + headerOn (blockAt card 0) .area + allBlocks (headerRanges (headerOn (blockAt card 0)))
-accepted-full m card accepted = geometry-tells _ _ _ (stored-geometry _ _ _ card _ (accepted-stored m card accepted)) .full
+accepted-full m card accepted = geometry-tells _ _ _ (stored-geometry {needed = allNeeded} _ _ _ card _ (accepted-stored m card accepted)) .full
 
 module _ (rs : List Range) (blocks area : ℕ) (full : blocks ≡ 1 + area + allBlocks rs) where
   -- what the frames show of each OID's page is as the table has it

@@ -4,7 +4,7 @@ use Prim.Native.Nat.{ℕ, _+_, _/_, _≤_, _<_}
 use borrow.Author.Tests.{eqb-true}
 use lib.Dec.{eqb}
 use lib.ListN.{length}
-use mathlib.Core.Bool.{Bool, true, false, cond, _||_}
+use mathlib.Core.Bool.{Bool, true, false, cond, _||_, not, false≢true}
 use mathlib.Core.List.{List}
 use mathlib.Core.Logic.{_≢_, _⊎_, inl, inr, ⊎-elim}
 use mathlib.Core.Option.{Option, none, some}
@@ -23,24 +23,27 @@ use Rattle.card.specs.declared.range.Lookup.{Lookup}
 use Rattle.card.specs.declared.range.Lookup.the-variants.{Located, Outside}
 use Rattle.frames.proofs.KeepLaws as keep
 use Rattle.frames.proofs.ReadyLaws.{has-frames, no-zeros}
-use Rattle.frames.proofs.Recovery.{frames-present, frames-hold}
+use Rattle.frames.proofs.Recovery.{frames-present, frames-hold, frames-committed}
 use Rattle.frames.proofs.Run as run
 use Rattle.frames.proofs.Run.{FrameWorld, FrameRun, goes, firstWorld, Serves}
 use Rattle.frames.specs.Promise as frames
-use Rattle.frames.specs.Promise.{Lent, FrameAnswer}
+use Rattle.frames.specs.Promise.{Lent, FrameAnswer, meaningOf}
 use Rattle.pages.proofs.AnswerLaws.{asked-both, write-passed, rescind-passed, frames-asked, block-done, block-none, kept-done, kept-refused, lowered}
 use Rattle.pages.proofs.BookLaws.{told-refused}
-use Rattle.pages.proofs.Represents.{write-whole, rescind-whole, write-same, rescind-same, accepted-full, SameBefore, Represents, represents-flushed, represents-cut, represents-start, represents-snapshot, represents-header, nothing-represents, in-p, pot-long, page-long, write-represents, rescind-represents}
+use Rattle.pages.proofs.Represents.{write-whole, rescind-whole, write-same, rescind-same, accepted-full, SameBefore, Represents, represents-flushed, represents-cut, represents-start, represents-snapshot, represents-header, nothing-represents, in-p, pot-long, page-long, write-represents, rescind-represents, page-same}
 use Rattle.pages.specs.Book.{Table, Book, Event, called, update, presentTo, written as pageWritten, rescinded, headerReached, flushedBook, cutBook, isDone, isHeader, isFlush, told, bookAfter}
 use Rattle.pages.specs.Demand3.{World, lentTo, driveAfter, Step, calls, cutWithin, cutBetween, Run, ended, then}
-use Rattle.pages.specs.Page.{Page, pageBytes, pageOf, writeFrames, rescindFrames}
-use Rattle.pages.specs.Promise.{Call, start, key, read, write, rescind, snapshot, pageOut, advance, Answer, refused, counted, filled, answered, addressOf, atPlace, presentFrames, presentCount, writeChanges, rescindChanges, asks, frameCall, doneAnswer, refusal, outcome, Kept}
+use Rattle.pages.specs.Page.{Page, pageBytes, pageOf, writeFrames, rescindFrames, flagged}
+use Rattle.pages.specs.Promise.{Call, start, key, read, write, rescind, snapshot, pageOut, advance, Answer, refused, counted, filled, answered, addressOf, atPlace, presentFrames, presentCount, writeChanges, rescindChanges, asks, frameCall, doneAnswer, refusal, outcome, Kept, committedFrames, over, passedOf}
 use Rattle.recovery.proofs.DriveLaws.{seen-written, left-spoilt}
-use Rattle.recovery.specs.Book.{FrameBook, applyChanges, bookChange, bookCut, WholeFrame}
+use Rattle.recovery.specs.Book.{FrameBook, applyChanges, bookChange, bookCut, WholeFrame, Brings}
 use Rattle.recovery.specs.Contents.{Contents, FrameBytes}
 use Rattle.recovery.specs.Questions.{startAsks}
-use Rattle.recovery.specs.Step.{page, directory, trailer, migration, header, flush}
+use Rattle.recovery.specs.Step.{page, directory, trailer, migration, header, flush, nextMigration, passTo}
 use Rattle.recovery.specs.Write.{BlockWrite, Drive, putAll, seen, settled, written, Left, Spoilt, Cut, ReachedIs}
+use Rattle.pages.specs.Needed.{pageAt, needed}
+use Rattle.pages.proofs.NeededLaws.{page-at, at-tells, pot-needed, page-needed, needed-same, write-brings, rescind-brings, not-true}
+use Rattle.recovery.proofs.SumLaws.{passed-over, passed-within, passed-more, passed-owed}
 
 -- a call that is done writes the block that its frame call writes
 write-is : (c : Call) (l : Lent) → firstNo (asks c l) ≡ 0 → outcome c l .write ≡ frames.outcome (frameCall c l) l .write
@@ -76,7 +79,7 @@ drive-done (write u n at new) l o v = unfold frames.doneAnswer isFlush in refl
 drive-done (rescind u n) l o v = unfold frames.doneAnswer isFlush in refl
 drive-done snapshot l o v = unfold frames.doneAnswer isFlush in refl
 drive-done pageOut l o v = same-flush (frames.doneAnswer frames.pageOut l) o v
-drive-done advance l o v = same-flush (frames.doneAnswer frames.advance l) o v
+drive-done advance l o v = same-flush (frames.doneAnswer (frames.advance (passedOf l)) l) o v
 
 -- one that is refused
 refusal-flush : (c : Call) (n : ℕ) → isFlush (refusal c n) ≡ false
@@ -126,6 +129,9 @@ module _ (m₀ card₀ : List ℕ) (accepted : firstNo (startAsks m₀ card₀) 
   abbrev full : blocks ≡ 1 + area + allBlocks rs
   full = accepted-full m₀ card₀ accepted
 
+  abbrev pub needs : Contents → ℕ → Bool
+  needs = needed rs area
+
   -- ---- the world of frames beside a world and a book of pages
 
   abbrev Same : FrameBook → Book → Type 0
@@ -133,7 +139,7 @@ module _ (m₀ card₀ : List ℕ) (accepted : firstNo (startAsks m₀ card₀) 
 
   pub record Beside (w : World) (b : Book) : Type 0 where
     pub frames : FrameWorld
-    pub run : FrameRun (firstWorld m₀ card₀) frames
+    pub run : FrameRun needs (firstWorld m₀ card₀) frames
     pub seen-is : seen (frames .drive) ≡ seen (w .drive)
     pub drive-is : w .complete ≡ true → frames .drive ≡ w .drive
     pub held-is : frames .held ≡ w .held
@@ -148,35 +154,55 @@ module _ (m₀ card₀ : List ℕ) (accepted : firstNo (startAsks m₀ card₀) 
 
     module _ (l : Lent) (held : w .held ≡ some l) (some-frames : 0 < l .store .frames) where
       pub serves : Serves card₀ l
-      serves = ⊎-elim (λ z. absurd (no-zeros (l .store) some-frames z)) (λ q. q) (frames-hold m₀ card₀ accepted (s .frames) (s .run) l (s .held-is ∙ held) .0)
+      serves = ⊎-elim (λ z. absurd (no-zeros (l .store) some-frames z)) (λ q. q) (frames-hold needs m₀ card₀ accepted (s .frames) (s .run) l (s .held-is ∙ held) .0)
 
       pub address-is : (o : ℕ) → addressOf l o ≡ locate rs (1 + area) o
       address-is o = rw (serves .ranges-is, serves .area-is)
 
-      shown : (f : ℕ) → area < f → f < blocks → presentFrames l f ≡ book .present f
-      shown f low high = frames-present m₀ card₀ accepted (s .frames) (s .run) l (s .held-is ∙ held) (serves .passes) f _ (low, high) refl
+      shown : (f : ℕ) → area < f → f < blocks → needs (book .present) f ≡ true → presentFrames l f ≡ book .present f
+      shown f low high t = frames-present needs m₀ card₀ accepted (s .frames) (s .run) l (s .held-is ∙ held) (serves .passes) f _ (low, high) t refl
+
+      -- what is passed over is not needed in what is kept
+      over-is : (f : ℕ) → over l f ≡ not (needs (book .kept) f)
+      over-is f = ap (λ (r : List Range). not (needed r (meaningOf l .area) (committedFrames l) f)) (serves .ranges-is) ∙ ap (λ (a : ℕ). not (needed rs a (committedFrames l) f)) (serves .area-is) ∙ ap not (needed-same rs area blocks full (committedFrames l) (book .kept)
+          (λ g low high t. frames-committed needs m₀ card₀ accepted (s .frames) (s .run) l (s .held-is ∙ held) (serves .passes) g _ (low, high) t refl) f)
+
+      advance-asked : run.Asked needs (frames.advance (passedOf l)) l book
+      unfolding passedOf
+      advance-asked = (
+        passed-within (over l) (meaningOf l) (serves .sound .migrated-within),
+        (λ j a b. not-true _ (sym (over-is (nextMigration (passTo j (meaningOf l)) .frame)) ∙ passed-over (over l) (meaningOf l) j a b)),
+        passed-more (over l) (meaningOf l),
+        passed-owed (over l) (meaningOf l),
+      )
 
       -- a change that may be asked for, since it is one of home frames, and what both books make of it
       abbrev News : List FrameBytes → Book → Type 0
-      News ws b′ = run.Asked (frames.change ws) l × Same (bookChange ws book) b′
+      News ws b′ = run.Asked needs (frames.change ws) l book × Same (bookChange ws book) b′
 
-      asked : (ws : List FrameBytes) → All (WholeFrame area blocks) ws → run.Asked (frames.change ws) l
-      asked ws h = subst (λ (n : ℕ). All (WholeFrame n (l .store .geometry .blocks)) ws) (sym (serves .area-is)) (subst (λ (n : ℕ). All (WholeFrame area n) ws) (sym (serves .blocks-is)) h)
+      asked : (ws : List FrameBytes) → All (WholeFrame area blocks) ws → Brings needs area blocks ws (book .present) → run.Asked needs (frames.change ws) l book
+      asked ws h k = subst (λ (n : ℕ). All (WholeFrame n (l .store .geometry .blocks)) ws × Brings needs n (l .store .geometry .blocks) ws (book .present)) (sym (serves .area-is))
+          (subst (λ (n : ℕ). All (WholeFrame area n) ws × Brings needs area n ws (book .present)) (sym (serves .blocks-is)) (h, k))
 
       module _ (o : ℕ) (p : Address) (at-p : locate rs (1 + area) o ≡ Located p) where
         inside : Within (1 + area) blocks p
         inside = in-p rs blocks area full o p at-p
 
-        pot-is : presentFrames l (p .pot) ≡ book .present (p .pot)
-        pot-is = shown (p .pot) (omega (arith, inside)) (omega (arith, inside))
+        at-page : pageAt rs (1 + area) (p .page) ≡ Located p
+        at-page = page-at rs (1 + area) o p at-p
 
-        page-is : presentFrames l (p .page) ≡ book .present (p .page)
-        page-is = shown (p .page) (omega (arith, inside)) (omega (arith, inside))
+        pot-is : presentFrames l (p .pot) ≡ book .present (p .pot)
+        pot-is = shown (p .pot) (omega (arith, inside)) (omega (arith, inside)) (pot-needed rs area blocks full (book .present) (p .pot) (at-tells rs (1 + area) (p .page) p at-page .pot-is))
+
+        page-is : flagged (book .present) p ≡ false → presentFrames l (p .page) ≡ book .present (p .page)
+        page-is h = shown (p .page) (omega (arith, inside)) (omega (arith, inside)) (page-needed rs area blocks full (book .present) (p .page) p at-page ∙ ap not h)
 
         -- its frames show the page as the book has it
         pub page-shown : pageOf (presentFrames l) p ≡ b .present o
-        unfolding pageOf pageBytes
-        page-shown = rw (pot-is, page-is) (s .same .present-is o p at-p)
+        page-shown = page-same (presentFrames l) (book .present) p pot-is page-is ∙ s .same .present-is o p at-p
+
+        two : p .page ≢ p .pot
+        two = omega (arith, inside)
 
         long-pot : length (book .present (p .pot)) ≡ 512
         long-pot = pot-long rs blocks area full o p at-p book b (s .same)
@@ -184,9 +210,9 @@ module _ (m₀ card₀ : List ℕ) (accepted : firstNo (startAsks m₀ card₀) 
         write-news : (at : ℕ) (new : List ℕ) → at + length new ≤ 512 → News (writeChanges l at new p) (presentTo (update o (pageWritten at new (b .present o)) (b .present)) b)
         unfolding writeChanges applyChanges
         write-news at new short = byTest (λ (ws : List FrameBytes). News ws (presentTo (update o (pageWritten at new (b .present o)) (b .present)) b)) (eqb (length new) 0)
-            (λ e. (tt, nothing-represents rs blocks area full book b (s .same) o at new (eqb-true _ _ e)))
+            (λ e. ((tt, λ f l h k t. t), nothing-represents rs blocks area full book b (s .same) o at new (eqb-true _ _ e)))
             (λ e. rw (write-same (presentFrames l) (book .present) p at new pot-is page-is)
-            (asked (writeFrames (book .present) p at new) home, write-represents rs blocks area full o p at-p book b (s .same) at new home))
+            (asked (writeFrames (book .present) p at new) home (write-brings rs area blocks full (book .present) p at-page two long-pot (inside .entry-high) at new), write-represents rs blocks area full o p at-p book b (s .same) at new home))
           where
             home : All (WholeFrame area blocks) (writeFrames (book .present) p at new)
             home = write-whole area blocks (book .present) p inside long-pot (page-long rs blocks area full o p at-p book b (s .same)) at new short
@@ -197,7 +223,7 @@ module _ (m₀ card₀ : List ℕ) (accepted : firstNo (startAsks m₀ card₀) 
             let home = rescind-whole area blocks (book .present) p inside long-pot in
             let count-is : presentCount l p ≡ b .present o .count = ap (λ (x : Page). x .count) page-shown in
             rw (rescind-same (presentFrames l) (book .present) p pot-is)
-            (asked (rescindFrames (book .present) p) home, rescind-represents rs blocks area full o p at-p book b (s .same) (rw (← count-is) few) home)
+            (asked (rescindFrames (book .present) p) home (rescind-brings rs area blocks full (book .present) p at-page two long-pot (inside .entry-high) (rw (← pot-is) few)), rescind-represents rs blocks area full o p at-p book b (s .same) (rw (← count-is) few) home)
 
     -- ---- a call that is done: its frame call may be asked for, and both books are told the same
 
@@ -217,12 +243,12 @@ module _ (m₀ card₀ : List ℕ) (accepted : firstNo (startAsks m₀ card₀) 
     header-news (frames.wrote flush n) = (represents-flushed rs blocks area full book b (s .same), tt)
 
     done-told : (l : Lent) (c : Call) → lentTo c w ≡ some l → firstNo (asks c l) ≡ 0
-        → run.Asked (frameCall c l) l
+        → run.Asked needs (frameCall c l) l book
         × Told (run.told (frameCall c l) (frames.doneAnswer (frameCall c l) l) book) (run.beforeTold (frames.doneAnswer (frameCall c l) l) book (s .frames .before)) (told (called c (doneAnswer c l)) b)
     unfolding frameCall doneAnswer frames.doneAnswer told run.told isDone applyChanges atPlace
     done-told l (start m) e ok = (tt, (represents-start rs blocks area full book b (s .same), s .before-is))
-    done-told l (key o) e ok = (tt, (s .same, s .before-is))
-    done-told l (read o n x) e ok = (tt, (s .same, s .before-is))
+    done-told l (key o) e ok = ((tt, λ f l h k t. t), (s .same, s .before-is))
+    done-told l (read o n x) e ok = ((tt, λ f l h k t. t), (s .same, s .before-is))
     done-told l (write o n at new) e ok =
         let q = asked-both (write o n at new) l tt ok in
         let low = has-frames l (q .0) in
@@ -235,7 +261,7 @@ module _ (m₀ card₀ : List ℕ) (accepted : firstNo (startAsks m₀ card₀) 
         rw (f .place-is) (let n = rescind-news l e low o (f .place) (sym (address-is l e low o) ∙ f .place-is) (rw (f .count-is) (f .few)) in (n .0, (n .1, s .before-is)))
     done-told l snapshot e ok = (tt, (represents-snapshot rs blocks area full book b (s .same), s .before-is))
     done-told l pageOut e ok = (tt, (s .same, s .before-is))
-    done-told l advance e ok = (tt, header-news (frames.doneAnswer frames.advance l))
+    done-told l advance e ok = (advance-asked l e (has-frames l (asked-both advance l tt ok .0)), header-news (frames.doneAnswer (frames.advance (passedOf l)) l))
 
     -- ---- steps
 

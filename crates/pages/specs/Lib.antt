@@ -1,5 +1,6 @@
 -- The promise of the calls, the book, and the two demands.
 pub mod Page
+pub mod Needed
 pub mod Promise
 pub mod Book
 pub mod Plain

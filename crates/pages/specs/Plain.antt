@@ -18,14 +18,15 @@ use Rattle.card.specs.declared.range.Address.{Address}
 use Rattle.card.specs.declared.range.Lookup.{Lookup}
 use Rattle.frames.specs.Promise.{advanced}
 use Rattle.pages.specs.Book.{update, written, rescinded}
+use Rattle.pages.specs.Needed.{needed}
 use Rattle.pages.specs.Page.{Page, flagged, pageOf, writeFrames, rescindFrames}
 use Rattle.pages.specs.Promise.{Call, start, key, read, write, rescind, snapshot, pageOut, advance, Answer, refused, done, counted, filled, wrote, atPlace, placed, refusal}
 use Rattle.recovery.specs.Book.{FrameBook, markedOr, bookChange, bookSnapshot, bookWrote}
 use Rattle.recovery.specs.Contents.{Contents, FrameBytes}
 use Rattle.recovery.specs.Directory.{frameOf}
 use Rattle.recovery.specs.State.{Generation, State, readFrame, Phase, writing, flushed, owed, isOwed}
-use Rattle.recovery.specs.Step.{pendingTo, currentTo, phaseTo, afterChange, afterSnapshot, Kind, page, directory, trailer, migration, header, flush, kindPut, tailWrite, trailerBlockNo, nextMigration, afterPageOut}
-use Rattle.recovery.specs.Sums.{roomSums, advanceSums, remainingWrites, firstOf}
+use Rattle.recovery.specs.Step.{pendingTo, currentTo, phaseTo, afterChange, afterSnapshot, Kind, page, directory, trailer, migration, header, flush, kindPut, tailWrite, trailerBlockNo, nextMigration, afterPageOut, passTo}
+use Rattle.recovery.specs.Sums.{roomSums, advanceSums, remainingWrites, firstOf, passedTo}
 use Rattle.recovery.specs.Write.{BlockWrite}
 
 -- a page with bit 0 of its flags: a page of zeros may have it clear, and k of a write depends on it
@@ -91,6 +92,15 @@ writeTouches r new p = cond (eqb (length new) 0) [] (touched (p .page) ∷ cond 
 abbrev pub rescindTouches : Address → List FrameBytes
 rescindTouches p = touched (p .pot) ∷ []
 
+-- ---- migration passes over pages whose flag is set in what is kept
+
+abbrev pub plainOver : Plain → ℕ → Bool
+plainOver t f = not (needed (t .ledger .ranges) (t .ledger .area) (t .frames .kept) f)
+
+-- with the next of them counted as if they were home
+abbrev pub plainPast : Plain → Plain
+plainPast t = record { rows = t .rows; changed = t .changed; phase = t .phase; ledger = passTo (passedTo (plainOver t) (ledgerOf t)) (t .ledger); frames = t .frames }
+
 -- ---- questions: 9 by the ranges, 10, 11, 15 and k by the rows, 12 to 14 and 20 by sums over the ledger, 16 to 19
 -- and 28 by what is marked, changed, committed, waiting and flushed; never 1, 2 or 3
 
@@ -106,7 +116,7 @@ plainAsks (write o n at new) t = placed (plainAddress t o) (λ p. ask 10 (eqb (t
 plainAsks (rescind o n) t = placed (plainAddress t o) (λ p. ask 10 (eqb (t .rows o .page .count) n) ∷ ask 15 (ltb n 4294967295) ∷ roomSums (rescindTouches p) (t .ledger))
 plainAsks snapshot t = ask 16 (isNone (t .frames .marked)) ∷ ask 17 (t .changed) ∷ ask 18 (ltb (t .ledger .commit) 4294967295) ∷ []
 plainAsks pageOut t = ask 28 (not (isOwed (t .phase))) ∷ ask 19 (ltb 0 (length (t .ledger .pending .waiting)) || ltb 0 (length (t .ledger .current .waiting))) ∷ []
-plainAsks advance t = advanceSums (ledgerOf t)
+plainAsks advance t = advanceSums (plainOver t) (ledgerOf t)
 
 -- ---- blocks written: a page-out's is the next place, with what was marked or is present of its frame; M's is the
 -- frame's home, with what is kept of it; a flush reports block 0 and writes none
@@ -186,7 +196,7 @@ plainDone pageOut t = record {
   write = some (plainPageOut t);
   next = record { rows = t .rows; changed = t .changed; phase = t .phase; ledger = afterPageOut (t .ledger); frames = t .frames };
 }
-plainDone advance t = plainAdvance (firstOf (remainingWrites (ledgerOf t))) t
+plainDone advance t = plainAdvance (firstOf (remainingWrites (plainOver t) (ledgerOf t))) (plainPast t)
 
 unfoldable pub plainDoes : Call → Plain → PlainOutcome
 plainDoes c t = cond (eqb (firstNo (plainAsks c t)) 0) (plainDone c t) (answers (refusal c (firstNo (plainAsks c t))) t)

@@ -3,7 +3,7 @@
 use Prim.Native.Nat.{ℕ, _+_, _/_, _%_, _<_}
 use lib.Dec.{leb, ltb, eqb}
 use lib.ListN.{length}
-use mathlib.Core.Bool.{false, cond, _&&_}
+use mathlib.Core.Bool.{Bool, false, cond, not, _&&_}
 use mathlib.Core.List.{List, [], _∷_, _++_}
 use mathlib.Core.Path.{_≡_}
 use Rattle.card.specs.Block.{whole}
@@ -14,7 +14,7 @@ use Rattle.card.specs.declared.range.Address.{Address}
 use Rattle.card.specs.declared.range.Lookup.{Lookup}
 use Rattle.card.specs.declared.range.Lookup.the-variants.{Located, Outside}
 use Rattle.frames.specs.Promise as frames
-use Rattle.frames.specs.Promise.{Lent, meaningOf, common, Outcome, outcomeOf, Keeps, FrameCall, FrameAnswer, numbered}
+use Rattle.frames.specs.Promise.{Lent, meaningOf, common, Outcome, outcomeOf, Keeps, FrameCall, FrameAnswer, numbered, past}
 use Rattle.pages.specs.Page.{pageBytes, writeFrames, rescindFrames, formatCard}
 use Rattle.pages.specs.declared.answer.Count.{Count}
 use Rattle.pages.specs.declared.answer.Count.the-variants.{Present, Refused}
@@ -22,8 +22,11 @@ use Rattle.pages.specs.declared.named.Named.{Named}
 use Rattle.record.specs.declared.store.Geometry.{Geometry}
 use Rattle.recovery.specs.Contents.{Contents, FrameBytes}
 use Rattle.recovery.specs.Questions.{startAsks, roomAsks, snapshotAsks, pageOutAsks, advanceAsks}
-use Rattle.recovery.specs.State.{readFrame}
+use Rattle.recovery.specs.State.{readFrame, committedFrame}
 use Rattle.recovery.specs.Step.{Kind}
+use Rattle.pages.specs.Needed.{needed}
+use Rattle.recovery.specs.Sums.{passedTo}
+use Rattle.record.specs.declared.store.Store.{Store}
 
 -- the calls but format, which stands apart; an OID and a count are a key. Start's memory is the one that it is lent
 pub data Call : Type 0 where
@@ -66,6 +69,17 @@ atPlace other (Located p) f = f p
 abbrev pub presentFrames : Lent → Contents
 presentFrames l = readFrame (meaningOf l) (l .card)
 
+-- what the committed generation shows, and the frames that migration passes over: pages whose flag is set there
+abbrev pub committedFrames : Lent → Contents
+committedFrames l = committedFrame (meaningOf l) (l .card)
+
+abbrev pub over : Lent → ℕ → Bool
+over l f = not (needed (meaningOf l .ranges) (meaningOf l .area) (committedFrames l) f)
+
+-- how many committed entries are home or passed over when advance is called
+unfoldable pub passedOf : Lent → ℕ
+passedOf l = passedTo (over l) (meaningOf l)
+
 -- the present count of a page
 abbrev pub presentCount : Lent → Address → ℕ
 presentCount l p = countAt (presentFrames l (p .pot)) (p .entry)
@@ -92,7 +106,7 @@ asks (write o n at new) l = common l ++ placed (addressOf l o) (λ p. ask 10 (eq
 asks (rescind o n) l = common l ++ placed (addressOf l o) (λ p. ask 10 (eqb (presentCount l p) n) ∷ ask 15 (ltb n 4294967295) ∷ roomAsks (rescindChanges l p) (meaningOf l))
 asks snapshot l = common l ++ snapshotAsks (meaningOf l)
 asks pageOut l = common l ++ pageOutAsks (meaningOf l)
-asks advance l = common l ++ advanceAsks (meaningOf l)
+asks advance l = common l ++ advanceAsks (meaningOf (past (passedOf l) l))
 
 -- ---- what a call does
 
@@ -105,7 +119,7 @@ frameCall (write o n at new) l = frames.change (atPlace [] (addressOf l o) (writ
 frameCall (rescind o n) l = frames.change (atPlace [] (addressOf l o) (rescindChanges l))
 frameCall snapshot l = frames.snapshot
 frameCall pageOut l = frames.pageOut
-frameCall advance l = frames.advance
+frameCall advance l = frames.advance (passedOf l)
 
 -- what it answers where it is done (without a place, 9 has refused it), and where it is refused
 unfoldable pub doneAnswer : Call → Lent → Answer
@@ -116,7 +130,7 @@ doneAnswer (write o n at new) l = done
 doneAnswer (rescind o n) l = done
 doneAnswer snapshot l = done
 doneAnswer pageOut l = answered (frames.doneAnswer frames.pageOut l)
-doneAnswer advance l = answered (frames.doneAnswer frames.advance l)
+doneAnswer advance l = answered (frames.doneAnswer (frames.advance (passedOf l)) l)
 
 unfoldable pub refusal : Call → ℕ → Answer
 refusal (start m) k = refused k
@@ -155,6 +169,13 @@ pub record FormatKept (area : ℕ) (numbers before : List ℕ) (a : Answer) (car
 -- the place of an OID by a record's area and ranges
 abbrev pub placeIn : Geometry → ℕ → Lookup
 placeIn g oid = locate (rangesOf (g .ranges) (g .count)) (1 + g .area) oid
+
+-- whether migration passes over a frame, and how many entries are home or passed over; memory does not matter
+abbrev pub OverIs : Store → List ℕ → ℕ → Bool → Type 0
+OverIs s card f r = (memory : List ℕ) → r ≡ over (frames.lent s memory card) f
+
+abbrev pub PassedIs : Store → List ℕ → ℕ → Type 0
+PassedIs s card n = (memory : List ℕ) → n ≡ passedOf (frames.lent s memory card)
 
 -- a page that a call names by its OID: question 9's number, or 0 and its place. Its entry is one of a pot's in any case
 pub record NamedIs (g : Geometry) (oid : ℕ) (r : Named) : Type 0 where

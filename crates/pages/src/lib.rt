@@ -3,6 +3,7 @@
 pub mod advance;
 pub mod answer;
 pub mod format;
+pub mod home;
 pub mod key;
 mod named;
 pub mod page_out;

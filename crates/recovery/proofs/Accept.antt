@@ -31,6 +31,7 @@ use Rattle.recovery.specs.Contents.{Contents, overlay, storedFrames}
 use Rattle.recovery.specs.Questions.{startAsks}
 use Rattle.recovery.specs.Sound.{Rising, Home, Between}
 use Rattle.recovery.specs.Step.{startCommitted}
+use Rattle.recovery.specs.Book.{Needs}
 
 -- entries that lie where they may, by rising frame, pass question 8
 pub entries-ok : (blocks area first p low : ℕ) (es : List Entry) → All (λ e. low < e .frame) es → All (Home area blocks) es → All (Between area first 0 p) es → Rising es
@@ -44,7 +45,7 @@ entries-ok blocks area first p low (e ∷ es) a h b r =
 
 -- ---- a recoverable card is accepted
 
-module _ (blocks area : ℕ) (ranges : List Range) (commit : ℕ) (g : SortedGeneration) (c : List ℕ) (kept : Contents) (k : Recoverable blocks area ranges commit g c kept) where
+module _ {needed : Needs} (blocks area : ℕ) (ranges : List Range) (commit : ℕ) (g : SortedGeneration) (c : List ℕ) (kept : Contents) (k : Recoverable needed blocks area ranges commit g c kept) where
   trailer-in : Tail c area commit g → (1 ≤ trailerAt area g) × (trailerAt area g ≤ area)
   unfolding trailerAt
   trailer-in t = on-in area (g .first) (k .low) (k .high) (g .pagesDown + dirBlocks (length (g .dir))) (omega (arith, k .fits, quiet-size g (k .quiet) (t .some-named)))
@@ -125,8 +126,8 @@ module _ (m c : List ℕ) (ok : firstNo (startAsks m c) ≡ 0) where
       let g = groups-passed (headerAsks (length c / 512) h) (generationAsks c) (header-numbered (length c / 512) h) (r .1) in
       record { memory = q .0; whole-card = w .0; many = w .1 .0; small = w .1 .1; head = header-tells (length c / 512) h (g .0); rest = g .1 }
 
-  abbrev Goal : SortedGeneration → Type 0
-  Goal g = Recoverable (length c / 512) (headerOn (blockAt c 0) .area) (headerRanges (headerOn (blockAt c 0))) (headerOn (blockAt c 0) .commit) g c (overlay (storedFrames c (g .dir)) (blockAt c))
+  abbrev Goal : Needs → SortedGeneration → Type 0
+  Goal needed g = Recoverable needed (length c / 512) (headerOn (blockAt c 0) .area) (headerRanges (headerOn (blockAt c 0))) (headerOn (blockAt c 0) .commit) g c (overlay (storedFrames c (g .dir)) (blockAt c))
 
   geometry : Geometry (length c / 512) (headerOn (blockAt c 0) .area) (headerRanges (headerOn (blockAt c 0)))
   geometry = geometry-tells _ _ _ (told .head .geometry)
@@ -134,7 +135,7 @@ module _ (m c : List ℕ) (ok : firstNo (startAsks m c) ≡ 0) where
   headed : Headed c (headerOn (blockAt c 0) .commit) (headerOn (blockAt c 0) .area) (headerRanges (headerOn (blockAt c 0)))
   headed = record { layout-is = told .head .layout; commit-is = refl; area-is = refl; ranges-is = refl }
 
-  unset-card : headerOn (blockAt c 0) .commit ≡ 0 → Goal (sortedEmpty 1)
+  unset-card : {needed : Needs} → headerOn (blockAt c 0) .commit ≡ 0 → Goal needed (sortedEmpty 1)
   unfolding countOf
   unset-card z = record {
     whole = told .whole-card;
@@ -156,7 +157,7 @@ module _ (m c : List ℕ) (ok : firstNo (startAsks m c) ≡ 0) where
     unset = λ e. unset-told _ (headerOn (blockAt c 0) .area) (rw z at (told .head .commit));
     fresh = λ e. refl;
     there = λ k. absurd (omega arith);
-    view = λ f l k. refl;
+    view = λ f l k t. refl;
   }
 
   unset-is : headerOn (blockAt c 0) .commit ≡ 0 → sortedCommittedOn c ≡ sortedEmpty 1
@@ -182,7 +183,7 @@ module _ (m c : List ℕ) (ok : firstNo (startAsks m c) ≡ 0) where
     unfolding entriesOn readDir
     long = tab-length _ 0 (committedOn c .entries)
 
-    set-card : Goal (sortedCommittedOn c)
+    set-card : {needed : Needs} → Goal needed (sortedCommittedOn c)
     unfolding sortedCommittedOn startCommitted countOf sizeOf placesOf trailerAt
     set-card =
         let h = headerOn (blockAt c 0) in
@@ -216,13 +217,13 @@ module _ (m c : List ℕ) (ok : firstNo (startAsks m c) ≡ 0) where
             trailer-is = rw spot (sym trailer-read ∙ λ i. record { commit = q .commit i; first = t .first; pages = t .pages; entries = sym long i });
             dir-is = rw long (unfold entriesOn in refl);
           };
-          view = λ f l k. refl;
+          view = λ f l k t. refl;
         }
 
-  pub accepted-card : Recoverable (length c / 512) (headerOn (blockAt c 0) .area) (headerRanges (headerOn (blockAt c 0))) (headerOn (blockAt c 0) .commit) (sortedCommittedOn c) c (recovered c)
+  pub accepted-card : {needed : Needs} → Recoverable needed (length c / 512) (headerOn (blockAt c 0) .area) (headerRanges (headerOn (blockAt c 0))) (headerOn (blockAt c 0) .commit) (sortedCommittedOn c) c (recovered c)
   unfolding recovered
-  accepted-card = go (headerOn (blockAt c 0) .commit) refl
+  accepted-card {needed} = go (headerOn (blockAt c 0) .commit) refl
     where
-      go : (n : ℕ) → headerOn (blockAt c 0) .commit ≡ n → Goal (sortedCommittedOn c)
+      go : (n : ℕ) → headerOn (blockAt c 0) .commit ≡ n → Goal needed (sortedCommittedOn c)
       go zero e = rw (unset-is e) (unset-card e)
       go (suc n) e = set-card (omega arith)

@@ -4,9 +4,9 @@ use Prim.Native.Nat.{ℕ, zero, suc, _+_, _*_, _/_, _≤_, _<_}
 use borrow.Author.Tests.{ne-eqb}
 use lib.Dec.{eqb}
 use lib.ListN.{length}
-use mathlib.Core.Bool.{true}
+use mathlib.Core.Bool.{true, false}
 use mathlib.Core.List.{List, [], _∷_}
-use mathlib.Core.Logic.{_≢_}
+use mathlib.Core.Logic.{_≢_, _⊎_, inl, inr}
 use mathlib.Core.Path.{_≡_, refl, ap, sym, _∙_}
 use native.Mathlib.Decide.{ℕ-discrete}
 use native.Mathlib.Omega.{arith}
@@ -23,10 +23,10 @@ use Rattle.card.specs.Range.{Range, geometryFits}
 use Rattle.card.specs.Ring.{ringAt}
 use Rattle.card.specs.declared.directory.Entry.{Entry}
 use Rattle.recovery.proofs.ContentsLaws.{overlay-base, overlay-hides, overlay-queueChange, once-queueChange, overlay-remove, all-remove, remove-absent, length-remove}
-use Rattle.recovery.proofs.Invariant.{Headed, Tail, Recoverable, Invariant}
+use Rattle.recovery.proofs.Invariant.{Headed, Tail, Recoverable, Invariant, fresh, fresh-same, fresh-needed, fresh-told}
 use Rattle.recovery.proofs.SizeLaws.{idle-size, empty-size, pagesDown-below, idle-dir, idle-waiting}
-use Rattle.recovery.proofs.Sorted.{withoutFrame, queueChange, Once, Absent, SortedGeneration, countOf, sizeOf, Sorted, sortedEmpty, sortedCommittedOn, sortedStart, sortedRead, queueAll, withoutAll, sortedChange, sortedSnapshot}
-use Rattle.recovery.specs.Book.{FrameBook, markedOr, applyChanges, bookChange, bookSnapshot, bookStart, WholeFrame}
+use Rattle.recovery.proofs.Sorted.{withoutFrame, queueChange, Once, Absent, SortedGeneration, countOf, sizeOf, Sorted, sortedEmpty, sortedCommittedOn, sortedStart, sortedRead, queueAll, withoutAll, sortedChange, sortedSnapshot, Without}
+use Rattle.recovery.specs.Book.{FrameBook, markedOr, applyChanges, bookChange, bookSnapshot, bookStart, WholeFrame, Needs, Brings}
 use Rattle.recovery.specs.Contents.{Contents, FrameBytes, overlay, storedFrames}
 use Rattle.recovery.specs.Sound.{Rising}
 use Rattle.recovery.specs.Step.{startCommitted}
@@ -109,12 +109,23 @@ apart-all (w ∷ ws) q es h = apart-all ws (queueChange w q) (withoutFrame (w .f
     (all-queueChange (λ v. Absent (v .frame) (withoutFrame (w .frame) es)) w q (remove-absent (w .frame) es)
     (all-map (λ v. Absent (v .frame) es) (λ v. Absent (v .frame) (withoutFrame (w .frame) es)) q (λ v a. all-remove (λ e. v .frame ≢ e .frame) (w .frame) es a) h))
 
+-- a change hides a frame, or has not got it
+applyChanges-cases : (ws : List FrameBytes) (f : ℕ) → Without f ws ⊎ ((u v : Contents) → applyChanges ws u f ≡ applyChanges ws v f)
+unfolding applyChanges
+applyChanges-cases [] f = inl tt
+applyChanges-cases (w ∷ ws) f = go (ℕ-discrete f (w .frame)) (applyChanges-cases ws f)
+  where
+    go : Dec (f ≡ w .frame) → Without f ws ⊎ ((u v : Contents) → applyChanges ws u f ≡ applyChanges ws v f) → Without f (w ∷ ws) ⊎ ((u v : Contents) → applyChanges ws (overlay (w ∷ []) u) f ≡ applyChanges ws (overlay (w ∷ []) v) f)
+    go (yes e) r = inr (λ u v. applyChanges-same ws _ _ f (overlay-hides (w ∷ []) u v f (λ n. n .0 e)))
+    go (no d) (inl k) = inl (d, k)
+    go (no d) (inr k) = inr (λ u v. k (overlay (w ∷ []) u) (overlay (w ∷ []) v))
+
 -- a change for which there is room
-pub call-change : (blocks : ℕ) (s : Sorted) (c : List ℕ) (b : FrameBook) (ws : List FrameBytes) → Invariant blocks s c b → All (WholeFrame (s .area) blocks) ws
+pub call-change : {needed : Needs} (blocks : ℕ) (s : Sorted) (c : List ℕ) (b : FrameBook) (ws : List FrameBytes) → Invariant needed blocks s c b → All (WholeFrame (s .area) blocks) ws → Brings needed (s .area) blocks ws (b .present)
     → sizeOf (sortedChange ws s .current) ≤ s .area / 2 → sizeOf (s .committed) + sizeOf (s .pending) + sizeOf (sortedChange ws s .current) ≤ s .area
-    → length (s .pending .waiting) + length (sortedChange ws s .current .waiting) ≤ s .memoryFrames → Invariant blocks (sortedChange ws s) c (bookChange ws b)
+    → length (s .pending .waiting) + length (sortedChange ws s .current .waiting) ≤ s .memoryFrames → Invariant needed blocks (sortedChange ws s) c (bookChange ws b)
 unfolding sortedChange countOf
-call-change blocks s c b ws i frames half room seated =
+call-change {needed} blocks s c b ws i frames brings half room seated =
     record {
       recoverable = i .recoverable;
       half-pending = i .half-pending;
@@ -140,14 +151,22 @@ call-change blocks s c b ws i frames half room seated =
       tailDown-ok = i .tailDown-ok;
       migrated-ok = i .migrated-ok;
       mark = i .mark;
-      now = λ f l h. overlay-all ws (s .current .waiting) c (s .current .dir) (markedOr b) f ∙ applyChanges-same ws _ (b .present) f (i .now f l h);
+      now = λ u f l h e. overlay-all ws (s .current .waiting) c (s .current .dir) u f ∙ go u f l h e (applyChanges-cases ws f);
     }
+  where
+    -- a frame that the change has not got is needed after it only if it was before
+    go : (u : Contents) (f : ℕ) → s .area < f → f < blocks → (fresh needed (markedOr b) (applyChanges ws (b .present)) f ≡ false → u f ≡ markedOr b f)
+        → Without f ws ⊎ ((u v : Contents) → applyChanges ws u f ≡ applyChanges ws v f)
+        → applyChanges ws (overlay (s .current .waiting) (overlay (storedFrames c (s .current .dir)) u)) f ≡ applyChanges ws (b .present) f
+    go u f l h e (inr k) = k _ _
+    go u f l h e (inl k) = applyChanges-same ws _ (b .present) f (i .now u f l h (λ q. e (fresh-told needed (markedOr b) (applyChanges ws (b .present)) f
+        (λ t. fresh-needed needed (markedOr b) (b .present) f q (brings f l h k t)))))
 
 -- ---- a snapshot
 
-pub call-mark : (blocks : ℕ) (s : Sorted) (c : List ℕ) (b : FrameBook) → Invariant blocks s c b → countOf (s .pending) ≡ 0 → s .commit < 4294967295 → Invariant blocks (sortedSnapshot s) c (bookSnapshot b)
+pub call-mark : {needed : Needs} (blocks : ℕ) (s : Sorted) (c : List ℕ) (b : FrameBook) → Invariant needed blocks s c b → countOf (s .pending) ≡ 0 → s .commit < 4294967295 → Invariant needed blocks (sortedSnapshot s) c (bookSnapshot b)
 unfolding sortedSnapshot overlay storedFrames
-call-mark blocks s c b i idle under =
+call-mark {needed} blocks s c b i idle under =
     let none-size : sizeOf (s .pending) ≡ 0 = idle-size (s .pending) idle in
     let no-dir : s .pending .dir ≡ [] = idle-dir (s .pending) idle in
     let no-wait : s .pending .waiting ≡ [] = idle-waiting (s .pending) idle in
@@ -169,8 +188,9 @@ call-mark blocks s c b i idle under =
       tailDown-after = λ h. absurd (omega arith);
       tailDown-ok = λ j h. absurd (omega arith);
       migrated-ok = i .migrated-ok;
-      mark = λ f l h. overlay-base (s .current .waiting) _ _ f (overlay-base (storedFrames c (s .current .dir)) (b .kept) (markedOr b) f (rw (no-wait, no-dir) at (i .mark f l h))) ∙ i .now f l h;
-      now = λ f l h. refl;
+      mark = λ u f l h e. i .now u f l h (λ q. rw (no-wait, no-dir) at (i .mark u f l h
+          (λ r. e (fresh-told needed (b .kept) (b .present) f (λ t. fresh-needed needed (b .kept) (markedOr b) f r (fresh-needed needed (markedOr b) (b .present) f q t))))));
+      now = λ u f l h e. e (fresh-same needed (b .present) f);
     }
 
 -- ---- start
@@ -179,7 +199,7 @@ quiet-gen : (g : SortedGeneration) → g .waiting ≡ [] → g ≡ record { firs
 quiet-gen g h = λ j. record { first = g .first; pagesDown = g .pagesDown; dir = g .dir; waiting = h j }
 
 -- what a start reads of a recoverable card is its committed generation
-pub committed-read : (blocks area : ℕ) (ranges : List Range) (commit : ℕ) (g : SortedGeneration) (c : List ℕ) (kept : Contents) → Recoverable blocks area ranges commit g c kept → sortedCommittedOn c ≡ g
+pub committed-read : {needed : Needs} (blocks area : ℕ) (ranges : List Range) (commit : ℕ) (g : SortedGeneration) (c : List ℕ) (kept : Contents) → Recoverable needed blocks area ranges commit g c kept → sortedCommittedOn c ≡ g
 unfolding sortedCommittedOn startCommitted committedOn entriesOn readDir tabulate
 committed-read blocks area ranges commit g c kept k = go commit refl
   where
@@ -190,9 +210,9 @@ committed-read blocks area ranges commit g c kept k = go commit refl
         rw (k .head .commit-is, ne-eqb commit 0 (omega arith), t .place-is, t .trailer-is, k .head .area-is, t .dir-is)
         (sym (quiet-gen g (k .quiet)))
 
-pub start-ok : (blocks area : ℕ) (ranges : List Range) (commit : ℕ) (g : SortedGeneration) (c : List ℕ) (b : FrameBook) → Recoverable blocks area ranges commit g c (b .kept) → (memoryFrames : ℕ) → Invariant blocks (sortedStart memoryFrames c) c (bookStart b)
+pub start-ok : {needed : Needs} (blocks area : ℕ) (ranges : List Range) (commit : ℕ) (g : SortedGeneration) (c : List ℕ) (b : FrameBook) → Recoverable needed blocks area ranges commit g c (b .kept) → (memoryFrames : ℕ) → Invariant needed blocks (sortedStart memoryFrames c) c (bookStart b)
 unfolding sortedStart overlay storedFrames countOf
-start-ok blocks area ranges commit g c b k memoryFrames =
+start-ok {needed} blocks area ranges commit g c b k memoryFrames =
     rw (k .head .area-is, committed-read blocks area ranges commit g c (b .kept) k, k .head .commit-is, k .head .ranges-is)
     (let nil : sizeOf (sortedEmpty (ringAt area (g .first) (sizeOf g))) ≡ 0 = empty-size (ringAt area (g .first) (sizeOf g)) in
     let sum : sizeOf g + sizeOf (sortedEmpty (ringAt area (g .first) (sizeOf g))) ≡ sizeOf g = omega arith in
@@ -211,24 +231,24 @@ start-ok blocks area ranges commit g c b k memoryFrames =
       tailDown-after = λ h. refl;
       tailDown-ok = λ j h. absurd (omega arith);
       migrated-ok = tt;
-      mark = λ f l h. refl;
-      now = λ f l h. refl;
+      mark = λ u f l h e. e (fresh-same needed (b .kept) f);
+      now = λ u f l h e. e (fresh-same needed (b .kept) f);
     })
 
 -- ---- read
 
-pub read-present : (blocks : ℕ) (s : Sorted) (c : List ℕ) (b : FrameBook) → Invariant blocks s c b → (f : ℕ) → s .area < f → f < blocks → sortedRead s c f ≡ b .present f
+pub read-present : {needed : Needs} (blocks : ℕ) (s : Sorted) (c : List ℕ) (b : FrameBook) → Invariant needed blocks s c b → (f : ℕ) → s .area < f → f < blocks
+    → needed (b .present) f ≡ true → sortedRead s c f ≡ b .present f
 unfolding sortedRead
-read-present blocks s c b i f l h =
-    let kept-is = i .recoverable .view f l h in
-    let mark-is = overlay-base (s .pending .waiting) _ _ f (overlay-base (storedFrames c (s .pending .dir)) _ (b .kept) f kept-is) ∙ i .mark f l h in
-    overlay-base (s .current .waiting) _ _ f (overlay-base (storedFrames c (s .current .dir)) _ (markedOr b) f mark-is) ∙ i .now f l h
+read-present {needed} blocks s c b i f l h t =
+    i .now _ f l h (λ q. i .mark _ f l h
+    (λ r. i .recoverable .view f l h (fresh-needed needed (b .kept) (markedOr b) f r (fresh-needed needed (markedOr b) (b .present) f q t))))
 
 -- ---- a formatted card
 
 -- a card with the header that a format writes
-pub format-ok : (blocks area : ℕ) (ranges : List Range) (c : List ℕ) → length c ≡ 512 * blocks → area < blocks → 11 ≤ blocks → blocks ≤ 65536
-    → geometryFits blocks area ranges ≡ true → Headed c 0 area ranges → headerOn (blockAt c 0) .trailer ≡ 0 → Recoverable blocks area ranges 0 (sortedEmpty 1) c (blockAt c)
+pub format-ok : {needed : Needs} (blocks area : ℕ) (ranges : List Range) (c : List ℕ) → length c ≡ 512 * blocks → area < blocks → 11 ≤ blocks → blocks ≤ 65536
+    → geometryFits blocks area ranges ≡ true → Headed c 0 area ranges → headerOn (blockAt c 0) .trailer ≡ 0 → Recoverable needed blocks area ranges 0 (sortedEmpty 1) c (blockAt c)
 unfolding overlay storedFrames
 format-ok blocks area ranges c whole home many small geo head unset =
     let t = geometry-tells blocks area ranges geo in
@@ -252,5 +272,5 @@ format-ok blocks area ranges c whole home many small geo head unset =
       unset = λ e. unset;
       fresh = λ e. refl;
       there = λ h. absurd (omega arith);
-      view = λ f l h. refl;
+      view = λ f l h t. refl;
     }

@@ -1,9 +1,9 @@
 -- Laws of layers: waiting frames and directories laid over what lies below, and entries put in by frame or taken out.
 -- Assumes nothing.
-use Prim.Native.Nat.{ℕ, suc, _*_, _≤_, _<_}
+use Prim.Native.Nat.{ℕ, zero, suc, _*_, _≤_, _<_}
 use borrow.Author.Tests.{eqb-true, eqb-false, eq-eqb, ne-eqb}
 use lib.Dec.{ltb, eqb}
-use lib.ListN.{length}
+use lib.ListN.{length, take, getD}
 use mathlib.Core.Bool.{true, false, cond}
 use mathlib.Core.List.{List, [], _∷_}
 use mathlib.Core.Logic.{_≢_}
@@ -152,3 +152,10 @@ length-insertByFrame-new e [] h = refl
 length-insertByFrame-new e (x ∷ xs) h =
     byTest (λ (l : List Entry). length l ≡ suc (suc (length xs))) (ltb (e .frame) (x .frame)) (λ p. refl)
     (λ p. rw (ne-eqb (e .frame) (x .frame) (h .0)) (ap suc (length-insertByFrame-new e xs (h .1))))
+
+-- what holds of the first m members, and of each one from there up to n, holds of the first n
+pub all-on : {A : Type 0} (P : A → Type 0) (m n : ℕ) (xs : List A) (last : A) → All P (take m xs) → ((j : ℕ) → m ≤ j → j < n → j < length xs → P (getD xs j last)) → All P (take n xs)
+all-on P m zero xs last h g = tt
+all-on P m (suc n) [] last h g = tt
+all-on P zero (suc n) (x ∷ xs) last h g = (g 0 (omega arith) (omega arith) (omega arith), all-on P zero n xs last tt (λ j l k e. g (suc j) (omega arith) (omega arith) (omega arith)))
+all-on P (suc m) (suc n) (x ∷ xs) last h g = (h .0, all-on P m n xs last (h .1) (λ j l k e. g (suc j) (omega arith) (omega arith) (omega arith)))

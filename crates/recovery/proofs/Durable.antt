@@ -27,6 +27,7 @@ use Rattle.recovery.proofs.Follows.{Stored}
 use Rattle.recovery.proofs.Harmless.{Harmless, harmless-low, harmless-left, harmless-write}
 use Rattle.recovery.proofs.Invariant.{Recoverable}
 use Rattle.recovery.proofs.Sorted.{SortedGeneration}
+use Rattle.recovery.specs.Book.{Needs}
 use Rattle.recovery.specs.Contents.{Contents}
 use Rattle.recovery.specs.Write.{BlockWrite, Drive, putAll, seen, settled, written, Proper, Unwritten, AnyBytes, Spoilt, headerAmong, HeaderIs, Reached}
 
@@ -39,17 +40,17 @@ abbrev pub oldHead : Drive → List ℕ
 oldHead v = putBlock (seen v) 0 (blockAt (v .flushed) 0)
 
 -- a header write that is not flushed, and what was kept before it
-abbrev pub Earlier : ℕ → ℕ → List Range → Drive → Option Contents → Type 0
-Earlier blocks area ranges v none = All (λ w. 1 ≤ w .block) (v .since)
-Earlier blocks area ranges v (some k) = (commit : ℕ) × (g : SortedGeneration) × Recoverable blocks area ranges commit g (oldHead v) k × Apart blocks area g (v .since)
+abbrev pub Earlier : Needs → ℕ → ℕ → List Range → Drive → Option Contents → Type 0
+Earlier needed blocks area ranges v none = All (λ w. 1 ≤ w .block) (v .since)
+Earlier needed blocks area ranges v (some k) = (commit : ℕ) × (g : SortedGeneration) × Recoverable needed blocks area ranges commit g (oldHead v) k × Apart blocks area g (v .since)
     × All (λ w. w .block ≡ 0 → w .bytes ≡ blockAt (seen v) 0) (v .since) × (headerAmong none (v .since) ≡ some (blockAt (seen v) 0))
 
-pub record Durable (blocks area : ℕ) (ranges : List Range) (commit : ℕ) (g : SortedGeneration) (v : Drive) (kept : Contents) (before : Option Contents) : Type 0 where
-  pub card : Recoverable blocks area ranges commit g (seen v) kept  -- 1
+pub record Durable (needed : Needs) (blocks area : ℕ) (ranges : List Range) (commit : ℕ) (g : SortedGeneration) (v : Drive) (kept : Contents) (before : Option Contents) : Type 0 where
+  pub card : Recoverable needed blocks area ranges commit g (seen v) kept  -- 1
   pub whole : length (v .flushed) ≡ 512 * blocks  -- 2
   pub proper : All (Proper blocks) (v .since)  -- 2
   pub apart : Apart blocks area g (v .since)  -- 3
-  pub earlier : Earlier blocks area ranges v before  -- 4, 5
+  pub earlier : Earlier needed blocks area ranges v before  -- 4, 5
 
 -- ---- cuts
 
@@ -78,13 +79,13 @@ module _ (blocks area : ℕ) (ranges : List Range) (v : Drive) (whole : length (
         (all-map (λ w. 1 ≤ w .block → Harmless blocks area g (w .block)) (λ w. n ≢ w .block) (v .since) (λ w h e. bad (subst (Harmless blocks area g) (sym e) (h (omega (arith, low, e))))) apart)
 
     -- the header as it is seen
-    cut-new : (commit : ℕ) (g : SortedGeneration) (kept : Contents) → Recoverable blocks area ranges commit g (seen v) kept → Apart blocks area g (v .since) → blockAt c′ 0 ≡ blockAt (seen v) 0
-        → Stored blocks area ranges c′ kept
+    cut-new : {needed : Needs} (commit : ℕ) (g : SortedGeneration) (kept : Contents) → Recoverable needed blocks area ranges commit g (seen v) kept → Apart blocks area g (v .since) → blockAt c′ 0 ≡ blockAt (seen v) 0
+        → Stored needed blocks area ranges c′ kept
     cut-new commit g kept k apart e = (commit, g, harmless-left blocks area ranges commit g (seen v) kept k c′ (cut-long ∙ sym seen-long) e (cut-other g apart))
 
     -- the header of the last flush
-    cut-old : (commit : ℕ) (g : SortedGeneration) (kept : Contents) → Recoverable blocks area ranges commit g (oldHead v) kept → Apart blocks area g (v .since) → blockAt c′ 0 ≡ blockAt (v .flushed) 0
-        → Stored blocks area ranges c′ kept
+    cut-old : {needed : Needs} (commit : ℕ) (g : SortedGeneration) (kept : Contents) → Recoverable needed blocks area ranges commit g (oldHead v) kept → Apart blocks area g (v .since) → blockAt c′ 0 ≡ blockAt (v .flushed) 0
+        → Stored needed blocks area ranges c′ kept
     cut-old commit g kept k apart e =
         let many : 11 ≤ blocks = k .many in
         let long : length (blockAt (v .flushed) 0) ≡ 512 = block-length (v .flushed) 0 (omega (arith, whole, many)) in
@@ -96,14 +97,14 @@ module _ (blocks area : ℕ) (ranges : List Range) (v : Drive) (whole : length (
               (λ n low bad. cut-other g apart n low bad ∙ sym (put-other (seen v) 0 (blockAt (v .flushed) 0) long fits n (omega (arith, low)))),
         )
 
-pub durable-cut : (blocks area : ℕ) (ranges : List Range) (commit : ℕ) (g : SortedGeneration) (v : Drive) (kept : Contents) (before : Option Contents) → Durable blocks area ranges commit g v kept before
+pub durable-cut : {needed : Needs} (blocks area : ℕ) (ranges : List Range) (commit : ℕ) (g : SortedGeneration) (v : Drive) (kept : Contents) (before : Option Contents) → Durable needed blocks area ranges commit g v kept before
     → (c′ : List ℕ) → Spoilt c′ (v .since) (v .flushed)
-    → (Reached (v .since) c′ → Stored blocks area ranges c′ kept) × ((Reached (v .since) c′ → ⊥) → Stored blocks area ranges c′ (Option·getD before kept))
-durable-cut blocks area ranges commit g v kept none d c′ l =
+    → (Reached (v .since) c′ → Stored needed blocks area ranges c′ kept) × ((Reached (v .since) c′ → ⊥) → Stored needed blocks area ranges c′ (Option·getD before kept))
+durable-cut {needed = needed} blocks area ranges commit g v kept none d c′ l =
     let un : Unwritten 0 (v .since) = all-map (λ w. 1 ≤ w .block) (λ w. 0 ≢ w .block) (v .since) (λ w h. omega (arith, h)) (d .earlier) in
-    let k : Stored blocks area ranges c′ kept = cut-new blocks area ranges v (d .whole) (d .proper) c′ l commit g kept (d .card) (d .apart) (cut-unwritten blocks area ranges v (d .whole) (d .proper) c′ l 0 un) in
+    let k : Stored needed blocks area ranges c′ kept = cut-new blocks area ranges v (d .whole) (d .proper) c′ l commit g kept (d .card) (d .apart) (cut-unwritten blocks area ranges v (d .whole) (d .proper) c′ l 0 un) in
     ((λ r. k), (λ r. k))
-durable-cut blocks area ranges commit g v kept (some k) d c′ l =
+durable-cut {needed = needed} blocks area ranges commit g v kept (some k) d c′ l =
     let e = d .earlier in
     let found : (blockAt c′ 0 ≡ blockAt (v .flushed) 0) ⊎ (blockAt c′ 0 ≡ blockAt (seen v) 0) =
     head-is (λ x. (x ≡ blockAt (v .flushed) 0) ⊎ (x ≡ blockAt (seen v) 0)) (blockAt (v .flushed) 0) (blockAt c′ 0) (v .since) (l blocks (d .whole) (d .proper) .head) (inl refl)
@@ -116,14 +117,14 @@ durable-cut blocks area ranges commit g v kept (some k) d c′ l =
 -- ---- flushes and writes
 
 -- nothing that is not flushed
-pub settled-durable : (blocks area : ℕ) (ranges : List Range) (commit : ℕ) (g : SortedGeneration) (c : List ℕ) (kept : Contents) → Recoverable blocks area ranges commit g c kept
-    → Durable blocks area ranges commit g (settled c) kept none
+pub settled-durable : {needed : Needs} (blocks area : ℕ) (ranges : List Range) (commit : ℕ) (g : SortedGeneration) (c : List ℕ) (kept : Contents) → Recoverable needed blocks area ranges commit g c kept
+    → Durable needed blocks area ranges commit g (settled c) kept none
 unfolding putAll
 settled-durable blocks area ranges commit g c kept k = record { card = k; whole = k .whole; proper = tt; apart = tt; earlier = tt }
 
-module _ (blocks area : ℕ) (ranges : List Range) (commit : ℕ) (g : SortedGeneration) (v : Drive) (kept : Contents) (d : Durable blocks area ranges commit g v kept none) (w : BlockWrite) (long : length (w .bytes) ≡ 512) where
+module _ {needed : Needs} (blocks area : ℕ) (ranges : List Range) (commit : ℕ) (g : SortedGeneration) (v : Drive) (kept : Contents) (d : Durable needed blocks area ranges commit g v kept none) (w : BlockWrite) (long : length (w .bytes) ≡ 512) where
   -- a write that does no harm
-  pub write-durable : Harmless blocks area g (w .block) → Durable blocks area ranges commit g (written (some w) v) kept none
+  pub write-durable : Harmless blocks area g (w .block) → Durable needed blocks area ranges commit g (written (some w) v) kept none
   write-durable safe =
       let low = harmless-low blocks area g (w .block) (d .card .home) safe in
       record {
@@ -135,8 +136,8 @@ module _ (blocks area : ℕ) (ranges : List Range) (commit : ℕ) (g : SortedGen
       }
 
   -- a header write, where all that is not flushed does no harm to the new generation either
-  pub header-durable : w .block ≡ 0 → (commit′ : ℕ) (g′ : SortedGeneration) (kept′ : Contents) → Recoverable blocks area ranges commit′ g′ (putBlock (seen v) (w .block) (w .bytes)) kept′
-      → All (λ u. Harmless blocks area g′ (u .block)) (v .since) → Durable blocks area ranges commit′ g′ (written (some w) v) kept′ (some kept)
+  pub header-durable : w .block ≡ 0 → (commit′ : ℕ) (g′ : SortedGeneration) (kept′ : Contents) → Recoverable needed blocks area ranges commit′ g′ (putBlock (seen v) (w .block) (w .bytes)) kept′
+      → All (λ u. Harmless blocks area g′ (u .block)) (v .since) → Durable needed blocks area ranges commit′ g′ (written (some w) v) kept′ (some kept)
   header-durable zero commit′ g′ kept′ new clear =
       let un : Unwritten 0 (v .since) = all-map (λ u. 1 ≤ u .block) (λ u. 0 ≢ u .block) (v .since) (λ u h. omega (arith, h)) (d .earlier) in
       let old-head : blockAt (seen v) 0 ≡ blockAt (v .flushed) 0 = seen-other blocks area ranges v (d .whole) (d .proper) 0 un in
@@ -161,7 +162,7 @@ module _ (blocks area : ℕ) (ranges : List Range) (commit : ℕ) (g : SortedGen
       }
     where
       -- with the header of the last flush it is the card from before the write
-      old-recoverable : blockAt (seen v) 0 ≡ blockAt (v .flushed) 0 → 512 * w .block + 512 ≤ length (seen v) → Recoverable blocks area ranges commit g (oldHead (written (some w) v)) kept
+      old-recoverable : blockAt (seen v) 0 ≡ blockAt (v .flushed) 0 → 512 * w .block + 512 ≤ length (seen v) → Recoverable needed blocks area ranges commit g (oldHead (written (some w) v)) kept
       old-recoverable old fits =
           let c : List ℕ = seen v in
           let h : List ℕ = blockAt (v .flushed) 0 in

@@ -1,7 +1,7 @@
 -- A card of which no record is held, and a state with its card: what they show of the book of frames.
 -- Assumes nothing.
 use Prim.Native.Nat.{ℕ, _+_, _*_, _≤_, _<_}
-use borrow.Author.Tests.{ltb-true, ltb-false, eqb-true, eqb-false}
+use borrow.Author.Tests.{ltb-true, ltb-false, eqb-true, eqb-false, lt-ltb}
 use lib.Dec.{ltb, eqb}
 use lib.ListN.{length}
 use mathlib.Core.Bool.{true, false, false≢true}
@@ -20,34 +20,39 @@ use Rattle.recovery.proofs.OrderedLaws.{long-waiting, same-count, same-
 use Rattle.recovery.proofs.RoomLaws.{Room}
 use Rattle.recovery.proofs.SizeLaws.{quiet-count, quiet-size}
 use Rattle.recovery.proofs.Sorted.{SortedGeneration, placesOf, countOf, sizeOf, sortedEmpty, sortedCommitted, sortedGeneration, sorted}
-use Rattle.recovery.specs.Book.{FrameBook}
+use Rattle.recovery.specs.Book.{FrameBook, Needs}
 use Rattle.recovery.specs.Contents.{Contents}
 use Rattle.recovery.specs.Directory.{byFrame, downEntries, dirOf, waitingFrom}
 use Rattle.recovery.specs.Sound.{Ordered}
 use Rattle.recovery.specs.State.{Committed, State, places, entryCount, size, committedSize, directoryOf, waitingFrames, empty, Phase, writing, flushed, owed, isOwed, isFlushed}
-use Rattle.recovery.specs.Step.{Kind, page, directory, trailer, migration, header, flush, migrationDue, advanceDue}
+use Rattle.recovery.specs.Step.{Kind, page, directory, trailer, migration, header, flush, migrationDue, advanceDue, migrating, passTo, nextMigration}
 
 -- a card of which no record is held: a start on it shows kept
-abbrev pub Stored : ℕ → ℕ → List Range → List ℕ → Contents → Type 0
-Stored blocks area ranges c kept = (commit : ℕ) × (g : SortedGeneration) × Recoverable blocks area ranges commit g c kept
+abbrev pub Stored : Needs → ℕ → ℕ → List Range → List ℕ → Contents → Type 0
+Stored needed blocks area ranges c kept = (commit : ℕ) × (g : SortedGeneration) × Recoverable needed blocks area ranges commit g c kept
 
 -- a snapshot is pending, and all that comes before its header write is down
 abbrev pub AllDown : State → Type 0
 AllDown s = (0 < entryCount (s .pending)) × (length (s .pending .waiting) ≡ 0) × (dirBlocks (entryCount (s .pending)) < s .tailDown) × (length (s .committed .entries) ≤ s .migrated)
 
 -- a state whose card and itself show what the book has
-pub record Follows (blocks area : ℕ) (ranges : List Range) (s : State) (c : List ℕ) (b : FrameBook) : Type 0 where
+pub record Follows (needed : Needs) (blocks area : ℕ) (ranges : List Range) (s : State) (c : List ℕ) (b : FrameBook) : Type 0 where
   pub blocks-is : s .blocks ≡ blocks
   pub area-is : s .area ≡ area
   pub ranges-is : s .ranges ≡ ranges
-  pub invariant : Invariant blocks (sorted s) c b
+  pub invariant : Invariant needed blocks (sorted s) c b
   pub pending-ordered : Ordered (s .pending)
   pub current-ordered : Ordered (s .current)
   pub migrated-within : s .migrated ≤ length (s .committed .entries)
   pub flushed-after : isFlushed (s .phase) ≡ true → AllDown s
   pub owed-before : isOwed (s .phase) ≡ true → (s .migrated ≡ 0) × (s .tailDown ≡ 0)
 
-module _ (blocks area : ℕ) (ranges : List Range) (s : State) (c : List ℕ) (b : FrameBook) (f : Follows blocks area ranges s c b) where
+-- The first n committed entries are home or passed over: those from `migrated` on are of frames that are not needed. None is passed over while a flush is owed.
+abbrev pub Passed : Needs → Contents → ℕ → State → Type 0
+Passed needed kept n s = (n ≤ length (s .committed .entries)) × ((j : ℕ) → s .migrated ≤ j → j < n → needed kept (nextMigration (passTo j s) .frame) ≡ false)
+    × (s .migrated ≤ n) × (isOwed (s .phase) ≡ true → n ≡ s .migrated)
+
+module _ {needed : Needs} (blocks area : ℕ) (ranges : List Range) (s : State) (c : List ℕ) (b : FrameBook) (f : Follows needed blocks area ranges s c b) where
   pub follows-card : (length c ≡ 512 * blocks) × (11 ≤ blocks) × (blocks ≤ 65536)
   follows-card = (f .invariant .recoverable .whole, f .invariant .recoverable .many, f .invariant .recoverable .small)
 
@@ -73,7 +78,7 @@ abbrev pub Facts : State → Kind → Type 0
 Facts s page = (0 < length (s .pending .waiting)) × (isOwed (s .phase) ≡ false)
 Facts s directory = (0 < entryCount (s .pending)) × (length (s .pending .waiting) ≡ 0) × (s .tailDown ≤ dirBlocks (entryCount (s .pending))) × (isOwed (s .phase) ≡ false)
 Facts s trailer = (0 < entryCount (s .pending)) × (length (s .pending .waiting) ≡ 0) × (s .tailDown ≤ dirBlocks (entryCount (s .pending))) × (isOwed (s .phase) ≡ false)
-Facts s migration = (s .migrated < length (s .committed .entries)) × (isOwed (s .phase) ≡ false)
+Facts s migration = (s .migrated < length (s .committed .entries)) × (isOwed (s .phase) ≡ false) × (migrating s ≡ true)
 Facts s header = AllDown s × (isFlushed (s .phase) ≡ true)
 Facts s flush = (isOwed (s .phase) ≡ true) ⊎ (AllDown s × (s .phase ≡ writing))
 
@@ -94,11 +99,11 @@ flushed-not-owed owed e = absurd (false≢true e)
 
 -- they hold of the one that is due
 pub due-facts : (s : State) → FactsOf s (advanceDue s)
-unfolding advanceDue migrationDue
+unfolding advanceDue migrationDue migrating
 due-facts s =
     byTest (FactsOf s) (isOwed (s .phase)) (λ o. inl o)
     (λ o. byTest (FactsOf s) (eqb (entryCount (s .pending)) 0)
-    (λ e. byTest (FactsOf s) (ltb (s .migrated) (length (s .committed .entries))) (λ m. (ltb-true _ _ m, o)) (λ m. tt))
+    (λ e. byTest (FactsOf s) (ltb (s .migrated) (length (s .committed .entries))) (λ m. (ltb-true _ _ m, o, rw (o, e))) (λ m. tt))
     (λ e. let any : 0 < entryCount (s .pending) = omega (arith, eqb-false (entryCount (s .pending)) 0 e) in
     byTest (FactsOf s) (ltb 0 (length (s .pending .waiting))) (λ p. (ltb-true _ _ p, o))
     (λ p. let still : length (s .pending .waiting) ≡ 0 = omega (arith, ltb-false 0 (length (s .pending .waiting)) p) in
@@ -106,13 +111,14 @@ due-facts s =
     (λ q. (any, still, omega (arith, ltb-true (s .tailDown) (dirBlocks (entryCount (s .pending))) q), o))
     (λ q. byTest (FactsOf s) (eqb (s .tailDown) (dirBlocks (entryCount (s .pending))))
     (λ r. (any, still, omega (arith, eqb-true (s .tailDown) (dirBlocks (entryCount (s .pending))) r), o))
-    (λ r. byTest (FactsOf s) (ltb (s .migrated) (length (s .committed .entries))) (λ m. (ltb-true _ _ m, o))
-    (λ m. let down : AllDown s = (any, still, omega (arith, eqb-false (s .tailDown) (dirBlocks (entryCount (s .pending))) r, ltb-false (s .tailDown) (dirBlocks (entryCount (s .pending))) q), ltb-false _ _ m) in
+    (λ r. let behind : dirBlocks (entryCount (s .pending)) < s .tailDown = omega (arith, eqb-false (s .tailDown) (dirBlocks (entryCount (s .pending))) r, ltb-false (s .tailDown) (dirBlocks (entryCount (s .pending))) q) in
+    byTest (FactsOf s) (ltb (s .migrated) (length (s .committed .entries))) (λ m. (ltb-true _ _ m, o, rw (o, e, p, lt-ltb _ _ behind)))
+    (λ m. let down : AllDown s = (any, still, behind, ltb-false _ _ m) in
     byTest (Facts s) (isFlushed (s .phase)) {x = header} {y = flush} (λ t. (down, t)) (λ t. inr (down, is-writing (s .phase) o t))))))))
 
 -- ---- sizes and counts of a state that follows
 
-module _ {blocks area : ℕ} {ranges : List Range} {s : State} {c : List ℕ} {b : FrameBook} (f : Follows blocks area ranges s c b) where
+module _ {needed : Needs} {blocks area : ℕ} {ranges : List Range} {s : State} {c : List ℕ} {b : FrameBook} (f : Follows needed blocks area ranges s c b) where
   pub size-pending : size (s .pending) ≡ sizeOf (sortedGeneration (s .area) (s .pending))
   size-pending = same-size (s .area) (s .pending) (f .pending-ordered)
 

@@ -11,13 +11,13 @@ use mathlib.Core.Option.{Option, none, some}
 use mathlib.Core.Path.{_≡_, refl, ap, sym, _∙_, subst}
 use native.Mathlib.Omega.{arith}
 use Rattle.card.proofs.QuestionLaws.{passed-both}
-use Rattle.card.specs.Block.{putBlock}
+use Rattle.card.specs.Block.{blockAt, putBlock}
 use Rattle.card.specs.Bytes.{All}
 use Rattle.card.specs.Question.{firstNo}
 use Rattle.card.specs.Range.{Range}
 use Rattle.card.specs.Ring.{ringAt}
 use Rattle.recovery.proofs.Calls.{call-change, call-mark}
-use Rattle.recovery.proofs.Follows.{Follows, AllDown, empty-ordered, sorted-empty, same-committed, Facts, FactsOf, due-facts, size-pending, size-current, count-pending, has-room, no-waiting, all-named, tail-below}
+use Rattle.recovery.proofs.Follows.{Follows, AllDown, empty-ordered, sorted-empty, same-committed, Facts, FactsOf, due-facts, size-pending, size-current, count-pending, has-room, no-waiting, all-named, tail-below, Passed}
 use Rattle.recovery.proofs.Invariant.{Invariant}
 use Rattle.recovery.proofs.OrderedLaws.{sorted-out, oldest-is, out-ordered, long-waiting, same-size, change-many, some-waiting}
 use Rattle.recovery.proofs.RoomLaws.{Room, room-told}
@@ -26,13 +26,14 @@ use Rattle.recovery.proofs.StepHead.{step-H}
 use Rattle.recovery.proofs.StepMove.{step-M}
 use Rattle.recovery.proofs.StepOut.{step-P, step-C}
 use Rattle.recovery.proofs.StepTail.{step-D, step-T}
-use Rattle.recovery.specs.Book.{FrameBook, bookChange, bookSnapshot, bookWrote, WholeFrame}
+use Rattle.recovery.specs.Book.{FrameBook, bookChange, bookSnapshot, bookWrote, WholeFrame, Needs, Brings}
 use Rattle.recovery.specs.Contents.{FrameBytes}
 use Rattle.recovery.specs.Questions.{roomAsks, snapshotAsks, pageOutAsks}
 use Rattle.recovery.specs.Sound.{Ordered}
 use Rattle.recovery.specs.State.{empty, State, entryCount, size, directoryOf, Phase, writing, flushed, owed, isOwed, isFlushed}
-use Rattle.recovery.specs.Step.{pendingTo, currentTo, changeFrames, afterChange, afterSnapshot, Kind, page, directory, trailer, migration, header, flush, outWrite, outOf, tailBytes, trailerBlockNo, nextMigration, kindWrite, kindPut, afterFlush, afterKind, advanceDue, pageOutWrite, afterPageOut}
+use Rattle.recovery.specs.Step.{pendingTo, currentTo, changeFrames, afterChange, afterSnapshot, Kind, page, directory, trailer, migration, header, flush, outWrite, outOf, tailBytes, trailerBlockNo, nextMigration, kindWrite, kindPut, afterFlush, afterKind, advanceDue, pageOutWrite, afterPageOut, passTo}
 use Rattle.recovery.specs.Write.{BlockWrite, putDown}
+use Rattle.recovery.proofs.ContentsLaws.{all-on}
 
 -- the sorted form of a kind: its write, and the state after it
 abbrev pub sortedPut : Kind → Sorted → List ℕ → Option BlockWrite
@@ -74,10 +75,10 @@ Early migration = Unit {0}
 Early header = ⊥
 Early flush = ⊥
 
-module _ (blocks area : ℕ) (ranges : List Range) (s : State) (c : List ℕ) (b : FrameBook) (f : Follows blocks area ranges s c b) where
+module _ {needed : Needs} (blocks area : ℕ) (ranges : List Range) (s : State) (c : List ℕ) (b : FrameBook) (f : Follows needed blocks area ranges s c b) where
   -- ---- a change
 
-  module _ (ws : List FrameBytes) (frames : All (WholeFrame area blocks) ws) (ok : firstNo (roomAsks ws s) ≡ 0) where
+  module _ (ws : List FrameBytes) (frames : All (WholeFrame area blocks) ws) (brings : Brings needed area blocks ws (b .present)) (ok : firstNo (roomAsks ws s) ≡ 0) where
     o : Ordered (changeFrames ws (s .current))
     o = change-many (s .area) ws (s .current) (f .current-ordered) .0
 
@@ -108,13 +109,14 @@ module _ (blocks area : ℕ) (ranges : List Range) (s : State) (c : List ℕ) (b
     new-waiting : length (changeFrames ws (s .current) .waiting) ≡ length (sortedChange ws (sorted s) .current .waiting)
     new-waiting = sym (long-waiting (changeFrames ws (s .current))) ∙ ap (λ (g : SortedGeneration). length (g .waiting)) current-is
 
-    pub follows-change : Follows blocks area ranges (afterChange ws s) c (bookChange ws b)
+    pub follows-change : Follows needed blocks area ranges (afterChange ws s) c (bookChange ws b)
     unfolding afterChange
     follows-change = record {
       blocks-is = f .blocks-is;
       area-is = f .area-is;
       ranges-is = f .ranges-is;
       invariant = rw (← sorted-change) (call-change blocks (sorted s) c b ws (f .invariant) (subst (λ (a : ℕ). All (WholeFrame a blocks) ws) (sym (f .area-is)) frames)
+          (subst (λ (a : ℕ). Brings needed a blocks ws (b .present)) (sym (f .area-is)) brings)
           (rw (← new-size) (sums .0)) (rw (← new-size, ← size-pending f, ← (same-committed (s .committed))) (sums .1)) (omega (arith, new-waiting, long-waiting (s .pending), sums .2)));
       pending-ordered = f .pending-ordered;
       current-ordered = o;
@@ -144,7 +146,7 @@ module _ (blocks area : ℕ) (ranges : List Range) (s : State) (c : List ℕ) (b
     current = (ap sortedEmpty mark-is ∙ sym (sorted-empty (s .area) (afterSnapshot s .current .first))) i;
   }
 
-  pub follows-snapshot : firstNo (snapshotAsks s) ≡ 0 → Follows blocks area ranges (afterSnapshot s) c (bookSnapshot b)
+  pub follows-snapshot : firstNo (snapshotAsks s) ≡ 0 → Follows needed blocks area ranges (afterSnapshot s) c (bookSnapshot b)
   unfolding snapshotAsks
   follows-snapshot ok =
       let q = passed-both 15 (eqb (entryCount (s .pending)) 0) _ ok in
@@ -163,7 +165,41 @@ module _ (blocks area : ℕ) (ranges : List Range) (s : State) (c : List ℕ) (b
         owed-before = unfold afterSnapshot in (λ p. (f .owed-before p .0, refl));
       }
 
-  -- ---- advance
+  -- ---- advance: the layer above tells how far entries are passed over, of frames that are not needed
+
+  pub follows-pass : (n : ℕ) → Passed needed (b .kept) n s → Follows needed blocks area ranges (passTo n s) c b
+  unfolding nextMigration
+  follows-pass n p =
+      let i = f .invariant in
+      record {
+        blocks-is = f .blocks-is;
+        area-is = f .area-is;
+        ranges-is = f .ranges-is;
+        invariant = record {
+          recoverable = i .recoverable;
+          half-pending = i .half-pending;
+          half-current = i .half-current;
+          seated = i .seated;
+          pending-ok = i .pending-ok;
+          current-ok = i .current-ok;
+          pending-first = i .pending-first;
+          current-first = i .current-first;
+          room = i .room;
+          limit = i .limit;
+          tailDown-fits = i .tailDown-fits;
+          tailDown-after = i .tailDown-after;
+          tailDown-ok = i .tailDown-ok;
+          migrated-ok = all-on (λ e. needed (b .kept) (e .frame) ≡ true → blockAt c (e .frame) ≡ b .kept (e .frame)) (s .migrated) n (s .committed .entries) _ (i .migrated-ok)
+              (λ j l h k t. absurd (false≢true (sym (p .1 j l h) ∙ t)));
+          mark = i .mark;
+          now = i .now;
+        };
+        pending-ordered = f .pending-ordered;
+        current-ordered = f .current-ordered;
+        migrated-within = p .0;
+        flushed-after = λ t. let d = f .flushed-after t in (d .0, d .1, d .2, omega (arith, d .3, p .2));
+        owed-before = λ t. let d = f .owed-before t in (p .3 t ∙ d .0, d .1);
+      }
 
   same-after : (k : Kind) → Facts s k → sortedNext k (sorted s) ≡ sorted (afterKind k s)
   unfolding sortedAfter afterKind
@@ -194,7 +230,7 @@ module _ (blocks area : ℕ) (ranges : List Range) (s : State) (c : List ℕ) (b
   })
   same-after flush h = refl
 
-  after-invariant : (k : Kind) → Facts s k → Invariant blocks (sortedNext k (sorted s)) (putDown (sortedPut k (sorted s) c) c) (bookWrote k b)
+  after-invariant : (k : Kind) → Facts s k → Invariant needed blocks (sortedNext k (sorted s)) (putDown (sortedPut k (sorted s) c) c) (bookWrote k b)
   after-invariant page h = step-P blocks (sorted s) c b (f .invariant) (some-waiting (s .pending) (h .0))
   after-invariant directory h = step-D blocks (sorted s) c b (f .invariant) (no-waiting f (h .1)) (tail-below f (h .1) (h .0) (h .2))
   after-invariant trailer h = step-T blocks (sorted s) c b (f .invariant) (no-waiting f (h .1)) (tail-below f (h .1) (h .0) (h .2))
@@ -243,7 +279,7 @@ module _ (blocks area : ℕ) (ranges : List Range) (s : State) (c : List ℕ) (b
   after-phase header h = ((λ p. absurd (false≢true p)), λ o. (refl, refl))
   after-phase flush h = let t = after-flush (s .phase) refl h in (t .0, λ o. absurd (t .1 o))
 
-  pub follows-advance : (k : Kind) → advanceDue s ≡ some k → Follows blocks area ranges (afterKind k s) (putDown (kindPut k (kindWrite k s c)) c) (bookWrote k b)
+  pub follows-advance : (k : Kind) → advanceDue s ≡ some k → Follows needed blocks area ranges (afterKind k s) (putDown (kindPut k (kindWrite k s c)) c) (bookWrote k b)
   follows-advance k e =
       let h : Facts s k = subst (FactsOf s) e (due-facts s) in
       let p = after-places k h in
@@ -280,10 +316,10 @@ module _ (blocks area : ℕ) (ranges : List Range) (s : State) (c : List ℕ) (b
   unfolding sortedWrite
   current-write = λ i. record { block = ringAt (s .area) (s .current .first) (s .current .pagesDown); bytes = oldest-is (s .area) (s .current) i }
 
-  page-invariant : (h : 0 < length (s .pending .waiting)) → Invariant blocks (sorted (pendingTo (outOf (s .pending)) (s .tailDown) s)) (putDown (some (outWrite (s .area) (s .pending))) c) b
+  page-invariant : (h : 0 < length (s .pending .waiting)) → Invariant needed blocks (sorted (pendingTo (outOf (s .pending)) (s .tailDown) s)) (putDown (some (outWrite (s .area) (s .pending))) c) b
   unfolding sortedAfter kindWrite
   page-invariant h = rw (sorted-out (s .area) (s .pending) (f .pending-ordered) h)
-      (subst (λ (w : BlockWrite). Invariant blocks (sortedAfter pendingOut (sorted s)) (putBlock c (w .block) (w .bytes)) b) (sym (same-page s c)) (step-P blocks (sorted s) c b (f .invariant) (some-waiting (s .pending) h)))
+      (subst (λ (w : BlockWrite). Invariant needed blocks (sortedAfter pendingOut (sorted s)) (putBlock c (w .block) (w .bytes)) b) (sym (same-page s c)) (step-P blocks (sorted s) c b (f .invariant) (some-waiting (s .pending) h)))
 
   module _ (ok : firstNo (pageOutAsks s) ≡ 0) where
     asked-out : (not (isOwed (s .phase)) ≡ true) × (0 < length (s .pending .waiting) + length (s .current .waiting))
@@ -301,12 +337,12 @@ module _ (blocks area : ℕ) (ranges : List Range) (s : State) (c : List ℕ) (b
     pub some-waits : 0 < length (s .pending .waiting) + length (s .current .waiting)
     some-waits = asked-out .1
 
-    pub follows-out : Follows blocks area ranges (afterPageOut s) (putDown (some (pageOutWrite s)) c) b
+    pub follows-out : Follows needed blocks area ranges (afterPageOut s) (putDown (some (pageOutWrite s)) c) b
     unfolding afterPageOut pageOutWrite
     follows-out = go (ltb 0 (length (s .pending .waiting))) refl
       where
         go : (t : Bool) → ltb 0 (length (s .pending .waiting)) ≡ t
-            → Follows blocks area ranges (cond t (pendingTo (outOf (s .pending)) (s .tailDown) s) (currentTo (outOf (s .current)) s))
+            → Follows needed blocks area ranges (cond t (pendingTo (outOf (s .pending)) (s .tailDown) s) (currentTo (outOf (s .current)) s))
             (putBlock c ((cond t (outWrite (s .area) (s .pending)) (outWrite (s .area) (s .current))) .block) ((cond t (outWrite (s .area) (s .pending)) (outWrite (s .area) (s .current))) .bytes)) b
         go true e =
             let h : 0 < length (s .pending .waiting) = ltb-true _ _ e in
@@ -327,7 +363,7 @@ module _ (blocks area : ℕ) (ranges : List Range) (s : State) (c : List ℕ) (b
               blocks-is = f .blocks-is;
               area-is = f .area-is;
               ranges-is = f .ranges-is;
-              invariant = rw (← (current-after h)) (subst (λ (w : BlockWrite). Invariant blocks (sortedAfter currentOut (sorted s)) (putBlock c (w .block) (w .bytes)) b) (sym current-write) (step-C blocks (sorted s) c b (f .invariant) (some-waiting (s .current) h)));
+              invariant = rw (← (current-after h)) (subst (λ (w : BlockWrite). Invariant needed blocks (sortedAfter currentOut (sorted s)) (putBlock c (w .block) (w .bytes)) b) (sym current-write) (step-C blocks (sorted s) c b (f .invariant) (some-waiting (s .current) h)));
               pending-ordered = f .pending-ordered;
               current-ordered = out-ordered (s .current) (f .current-ordered) h;
               migrated-within = f .migrated-within;

@@ -28,24 +28,24 @@ use Rattle.recovery.proofs.SizeLaws.{idle-size}
 use Rattle.recovery.proofs.Sorted.{SortedGeneration, countOf, sizeOf, sortedEmpty, sortedGeneration, sorted, oldest, sortedCommittedOn, sortedStart, recovered, sortedRead, nextHome}
 use Rattle.recovery.proofs.StepMove.{copies-kept}
 use Rattle.recovery.proofs.WaitLaws.{oldest-frame}
-use Rattle.recovery.specs.Book.{FrameBook, markedOr, bookStart}
+use Rattle.recovery.specs.Book.{FrameBook, markedOr, bookStart, Needs}
 use Rattle.recovery.specs.Contents.{Contents, overlay, storedFrames}
 use Rattle.recovery.specs.Directory.{byFrame, downEntries, dirOf, frameOf, waitingFrom}
 use Rattle.recovery.specs.Questions.{startAsks}
 use Rattle.recovery.specs.Sound.{Ordered, Sound}
-use Rattle.recovery.specs.State.{Generation, State, places, entryCount, committedSize, directoryOf, waitingFrames, empty, readFrame}
-use Rattle.recovery.specs.Step.{page, migration, oldestBytes, nextMigration, advanceDue, startCommitted, startState}
+use Rattle.recovery.specs.State.{Generation, State, places, entryCount, committedSize, directoryOf, waitingFrames, empty, readFrame, committedFrame}
+use Rattle.recovery.specs.Step.{page, migration, header, oldestBytes, nextMigration, advanceDue, startCommitted, startState}
 
 -- ---- a card that a start accepts, and one that a format has left
 
 -- a card that start accepts shows what is read of it then
-pub accepted-stored : (m c : List ℕ) → firstNo (startAsks m c) ≡ 0 → Stored (length c / 512) (headerOn (blockAt c 0) .area) (headerRanges (headerOn (blockAt c 0))) c (readFrame (startState m c) c)
+pub accepted-stored : {needed : Needs} (m c : List ℕ) → firstNo (startAsks m c) ≡ 0 → Stored needed (length c / 512) (headerOn (blockAt c 0) .area) (headerRanges (headerOn (blockAt c 0))) c (readFrame (startState m c) c)
 unfolding readFrame startState recovered sortedCommittedOn overlay empty waitingFrames directoryOf storedFrames dirOf downEntries byFrame waitingFrom
 accepted-stored m c ok = (headerOn (blockAt c 0) .commit, sortedCommittedOn c, accepted-card m c ok)
 
 -- a card with the header that a format writes shows its home blocks
-pub format-stored : (blocks area : ℕ) (ranges : List Range) (c : List ℕ) → length c ≡ 512 * blocks → 11 ≤ blocks → blocks ≤ 65536 → geometryFits blocks area ranges ≡ true
-    → blockAt c 0 ≡ headerBlock 0 0 area ranges → Stored blocks area ranges c (blockAt c)
+pub format-stored : {needed : Needs} (blocks area : ℕ) (ranges : List Range) (c : List ℕ) → length c ≡ 512 * blocks → 11 ≤ blocks → blocks ≤ 65536 → geometryFits blocks area ranges ≡ true
+    → blockAt c 0 ≡ headerBlock 0 0 area ranges → Stored needed blocks area ranges c (blockAt c)
 format-stored blocks area ranges c whole many small geo head =
     let t = geometry-tells blocks area ranges geo in
     let says : HeaderBack 0 0 area ranges (headerOn (blockAt c 0)) =
@@ -56,31 +56,31 @@ format-stored blocks area ranges c whole many small geo head =
           (record { layout-is = says .layout-is; commit-is = says .commit-is; area-is = says .area-is; ranges-is = says .ranges-is }) (says .trailer-is),
     )
 
-module _ (blocks area : ℕ) (ranges : List Range) where
-  -- every kept frame is a whole block
-  pub stored-long : (c : List ℕ) (kept : Contents) → Stored blocks area ranges c kept → (f : ℕ) → area < f → f < blocks → length (kept f) ≡ 512
-  stored-long c kept k f l h =
-      rw (← (k .2 .view f l h)) (overlay-whole (storedFrames c (k .1 .dir)) (blockAt c) f
+sorted-start : (m c : List ℕ) → sorted (startState m c) ≡ sortedStart (length m / 512) c
+unfolding startState sortedStart sortedCommittedOn
+sorted-start m c =
+    rw (
+      sorted-empty (headerOn (blockAt c 0) .area) (ringAt (headerOn (blockAt c 0) .area) (startCommitted c .first) (committedSize (startCommitted c))),
+      same-committed (startCommitted c),
+    )
+
+module _ {needed : Needs} (blocks area : ℕ) (ranges : List Range) where
+  -- every kept frame that is needed is a whole block
+  pub stored-long : (c : List ℕ) (kept : Contents) → Stored needed blocks area ranges c kept → (f : ℕ) → area < f → f < blocks → needed kept f ≡ true → length (kept f) ≡ 512
+  stored-long c kept k f l h t =
+      rw (← (k .2 .view f l h t)) (overlay-whole (storedFrames c (k .1 .dir)) (blockAt c) f
       (stored-whole c area blocks (k .2 .whole) (k .2 .home) (k .1 .dir) (all-map _ _ (k .1 .dir) (λ e p. p .1) (k .2 .inside)))
       (block-length c f (omega (arith, k .2 .whole))))
 
-  pub stored-geometry : (c : List ℕ) (kept : Contents) → Stored blocks area ranges c kept → geometryFits blocks area ranges ≡ true
+  pub stored-geometry : (c : List ℕ) (kept : Contents) → Stored needed blocks area ranges c kept → geometryFits blocks area ranges ≡ true
   stored-geometry c kept k = k .2 .geo
 
   -- start accepts it
-  pub stored-accepts : (c : List ℕ) (kept : Contents) → Stored blocks area ranges c kept → (m : List ℕ) → whole 4 64 (length m) ≡ true → firstNo (startAsks m c) ≡ 0
+  pub stored-accepts : (c : List ℕ) (kept : Contents) → Stored needed blocks area ranges c kept → (m : List ℕ) → whole 4 64 (length m) ≡ true → firstNo (startAsks m c) ≡ 0
   stored-accepts c kept k m h = start-accepts blocks area ranges (k .0) (k .1) c kept (k .2) m h
 
-  sorted-start : (m c : List ℕ) → sorted (startState m c) ≡ sortedStart (length m / 512) c
-  unfolding startState sortedStart sortedCommittedOn
-  sorted-start m c =
-      rw (
-        sorted-empty (headerOn (blockAt c 0) .area) (ringAt (headerOn (blockAt c 0) .area) (startCommitted c .first) (committedSize (startCommitted c))),
-        same-committed (startCommitted c),
-      )
-
   -- the state after a start follows the book
-  pub stored-start : (c : List ℕ) (b : FrameBook) → Stored blocks area ranges c (b .kept) → (m : List ℕ) → Follows blocks area ranges (startState m c) c (bookStart b)
+  pub stored-start : (c : List ℕ) (b : FrameBook) → Stored needed blocks area ranges c (b .kept) → (m : List ℕ) → Follows needed blocks area ranges (startState m c) c (bookStart b)
   stored-start c b k m = record {
     blocks-is = unfold startState in (omega (arith, k .2 .whole));
     area-is = unfold startState in (k .2 .head .area-is);
@@ -95,11 +95,16 @@ module _ (blocks area : ℕ) (ranges : List Range) where
 
   -- ---- read
 
-  pub reads-present : (s : State) (c : List ℕ) (b : FrameBook) → Follows blocks area ranges s c b → (f : ℕ) → area < f → f < blocks → readFrame s c f ≡ b .present f
+  pub reads-present : (s : State) (c : List ℕ) (b : FrameBook) → Follows needed blocks area ranges s c b → (f : ℕ) → area < f → f < blocks → needed (b .present) f ≡ true → readFrame s c f ≡ b .present f
   unfolding readFrame sortedRead
-  reads-present s c b i f l h = read-present blocks (sorted s) c b (i .invariant) f (omega (arith, i .area-is)) h
+  reads-present s c b i f l h t = read-present blocks (sorted s) c b (i .invariant) f (omega (arith, i .area-is)) h t
 
-  module _ (s : State) (c : List ℕ) (b : FrameBook) (f : Follows blocks area ranges s c b) where
+  -- what the committed generation shows is what is kept
+  pub reads-committed : (s : State) (c : List ℕ) (b : FrameBook) → Follows needed blocks area ranges s c b → (f : ℕ) → area < f → f < blocks → needed (b .kept) f ≡ true → committedFrame s c f ≡ b .kept f
+  unfolding committedFrame
+  reads-committed s c b i f l h t = i .invariant .recoverable .view f (omega (arith, i .area-is)) h t
+
+  module _ (s : State) (c : List ℕ) (b : FrameBook) (f : Follows needed blocks area ranges s c b) where
     -- ---- the bytes that are written
 
     module _ (g : Generation) (v w : Contents) (lo : ℕ) (ok : GenerationFits blocks (s .area) (s .committed .first) lo (sortedGeneration (s .area) g)) (more : 0 < length (g .waiting))
@@ -112,12 +117,12 @@ module _ (blocks area : ℕ) (ranges : List Range) where
 
     -- page-out writes what was marked, or else what is present; M writes what is kept
     pub pending-bytes : 0 < length (s .pending .waiting) → oldestBytes (s .pending .waiting) ≡ markedOr b (frameOf (s .pending .pagesDown) (s .pending .entries))
-    pending-bytes h = waiting-bytes (s .pending) (overlay (storedFrames c (directoryOf (s .area) (s .pending))) (b .kept)) (markedOr b) _ (f .invariant .pending-ok) h (f .invariant .mark)
+    pending-bytes h = waiting-bytes (s .pending) (overlay (storedFrames c (directoryOf (s .area) (s .pending))) (b .kept)) (markedOr b) _ (f .invariant .pending-ok) h (λ x l k. f .invariant .mark (b .kept) x l k (λ q. refl))
 
     pub current-bytes : 0 < length (s .current .waiting) → oldestBytes (s .current .waiting) ≡ b .present (frameOf (s .current .pagesDown) (s .current .entries))
-    current-bytes h = waiting-bytes (s .current) (overlay (storedFrames c (directoryOf (s .area) (s .current))) (markedOr b)) (b .present) _ (f .invariant .current-ok) h (f .invariant .now)
+    current-bytes h = waiting-bytes (s .current) (overlay (storedFrames c (directoryOf (s .area) (s .current))) (markedOr b)) (b .present) _ (f .invariant .current-ok) h (λ x l k. f .invariant .now (markedOr b) x l k (λ q. refl))
 
-    pub home-bytes : s .migrated < length (s .committed .entries) → blockAt c (nextMigration s .block) ≡ b .kept (nextMigration s .frame)
+    pub home-bytes : s .migrated < length (s .committed .entries) → needed (b .kept) (nextMigration s .frame) ≡ true → blockAt c (nextMigration s .block) ≡ b .kept (nextMigration s .frame)
     unfolding nextMigration nextHome
     home-bytes h = copies-kept blocks (sorted s) c b (f .invariant) h
 

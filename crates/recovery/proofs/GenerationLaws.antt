@@ -4,7 +4,7 @@ use Prim.Native.Nat.{ℕ, zero, suc, _+_, _≤_, _<_}
 use borrow.Author.Tests.{ltb-true, ltb-false, eqb-true, eqb-false, eq-eqb, ne-eqb}
 use lib.Dec.{ltb, eqb}
 use lib.ListN.{length, getD}
-use mathlib.Core.Bool.{true, false, cond}
+use mathlib.Core.Bool.{Bool, true, false, cond}
 use mathlib.Core.List.{List, [], _∷_, tail}
 use mathlib.Core.Logic.{_≢_}
 use mathlib.Core.Path.{_≡_, refl, ap, sym, _∙_}
@@ -67,15 +67,15 @@ overlay-at c (e ∷ es) (suc i) base none r h =
     let later : e .frame < getD es i none .frame = all-at (λ x. e .frame < x .frame) es i none (r .0) (omega arith) in
     rw (ne-eqb (getD es i none .frame) (e .frame) (omega arith)) (overlay-at c es i base none (r .1) (omega arith))
 
--- where every entry is home, so is what the view shows
-pub home-kept : (c : List ℕ) (es : List Entry) (base kept : Contents) (f : ℕ) → All (λ e. base (e .frame) ≡ kept (e .frame)) es
-    → overlay (storedFrames c es) base f ≡ kept f → base f ≡ kept f
+-- where every needed entry is home, so is what the view shows
+pub home-kept : (needed : ℕ → Bool) (c : List ℕ) (es : List Entry) (base kept : Contents) (f : ℕ) → All (λ e. needed (e .frame) ≡ true → base (e .frame) ≡ kept (e .frame)) es
+    → needed f ≡ true → overlay (storedFrames c es) base f ≡ kept f → base f ≡ kept f
 unfolding overlay storedFrames
-home-kept c [] base kept f h = λ v. v
-home-kept c (e ∷ es) base kept f h =
+home-kept needed c [] base kept f h n = λ v. v
+home-kept needed c (e ∷ es) base kept f h n =
     elim (eqb f (e .frame)) as (λ t. eqb f (e .frame) ≡ t → cond t (blockAt c (e .block)) (overlay (storedFrames c es) base f) ≡ kept f → base f ≡ kept f) [
-      | true ↦ λ q v. rw (eqb-true f (e .frame) q) (h .0)
-      | false ↦ λ q v. home-kept c es base kept f (h .1) v
+      | true ↦ λ q v. let same : f ≡ e .frame = eqb-true f (e .frame) q in rw same (h .0 (rw same at n))
+      | false ↦ λ q v. home-kept needed c es base kept f (h .1) n v
     ] refl
 
 module _ (blocks area first lo : ℕ) (g : SortedGeneration) (ok : GenerationFits blocks area first lo g) (some : 0 < length (g .waiting)) where

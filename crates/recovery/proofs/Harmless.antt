@@ -23,6 +23,7 @@ use Rattle.recovery.proofs.SizeLaws.{quiet-size, pagesDown-below}
 use Rattle.recovery.proofs.Sorted.{Without, SortedGeneration, sizeOf, trailerAt}
 use Rattle.recovery.specs.Contents.{Contents, overlay, storedFrames}
 use Rattle.recovery.specs.Sound.{Between}
+use Rattle.recovery.specs.Book.{Needs}
 
 -- where a write does no harm to the committed generation g
 pub data Harmless (blocks area : ℕ) (g : SortedGeneration) (n : ℕ) : Type 0 where
@@ -60,7 +61,7 @@ absent-or-not f (e ∷ es) = go (ℕ-discrete f (e .frame)) (absent-or-not f es)
 
 -- ---- another card that differs in such blocks alone
 
-module _ (blocks area : ℕ) (ranges : List Range) (commit : ℕ) (g : SortedGeneration) (c : List ℕ) (kept : Contents) (k : Recoverable blocks area ranges commit g c kept)
+module _ {needed : Needs} (blocks area : ℕ) (ranges : List Range) (commit : ℕ) (g : SortedGeneration) (c : List ℕ) (kept : Contents) (k : Recoverable needed blocks area ranges commit g c kept)
     (c′ : List ℕ) (long : length c′ ≡ length c) (head-same : blockAt c′ 0 ≡ blockAt c 0) (other : (n : ℕ) → 1 ≤ n → (Harmless blocks area g n → ⊥) → blockAt c′ n ≡ blockAt c n) where
   -- what the committed directory names stands
   committed-same : storedFrames c′ (g .dir) ≡ storedFrames c (g .dir)
@@ -92,7 +93,7 @@ module _ (blocks area : ℕ) (ranges : List Range) (commit : ℕ) (g : SortedGen
   same-view f l (no some) = overlay-hides (storedFrames c (g .dir)) (blockAt c′) (blockAt c) f (λ w. some (without-storedFrames c f (g .dir) w))
 
   -- it shows what the first did
-  pub harmless-left : Recoverable blocks area ranges commit g c′ kept
+  pub harmless-left : Recoverable needed blocks area ranges commit g c′ kept
   harmless-left = record {
     whole = long ∙ k .whole;
     home = k .home;
@@ -113,12 +114,12 @@ module _ (blocks area : ℕ) (ranges : List Range) (commit : ℕ) (g : SortedGen
     unset = λ e. rw head-same (k .unset e);
     fresh = k .fresh;
     there = λ h. tail-same (k .there h);
-    view = λ f l h. rw committed-same (same-view f l (absent-or-not f (g .dir)) ∙ k .view f l h);
+    view = λ f l h t. rw committed-same (same-view f l (absent-or-not f (g .dir)) ∙ k .view f l h t);
   }
 
 -- one such block written, whatever bytes it has
-pub harmless-write : (blocks area : ℕ) (ranges : List Range) (commit : ℕ) (g : SortedGeneration) (c : List ℕ) (kept : Contents) → Recoverable blocks area ranges commit g c kept
-    → (n : ℕ) → Harmless blocks area g n → (x : List ℕ) → length x ≡ 512 → Recoverable blocks area ranges commit g (putBlock c n x) kept
+pub harmless-write : {needed : Needs} (blocks area : ℕ) (ranges : List Range) (commit : ℕ) (g : SortedGeneration) (c : List ℕ) (kept : Contents) → Recoverable needed blocks area ranges commit g c kept
+    → (n : ℕ) → Harmless blocks area g n → (x : List ℕ) → length x ≡ 512 → Recoverable needed blocks area ranges commit g (putBlock c n x) kept
 harmless-write blocks area ranges commit g c kept k n harmless x long =
     let low = harmless-low blocks area g n (k .home) harmless in
     let fit : 512 * n + 512 ≤ length c = omega (arith, low, k .whole) in

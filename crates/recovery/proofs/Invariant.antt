@@ -6,7 +6,7 @@
 --   3. With commit 0 nothing is committed: the trailer block is 0, there is no entry, and the first stretch starts at block 1.
 --   4. With commit above 0 the header names the committed generation's trailer, and trailer and directory read back as its numbers and entries.
 --   5. Committed entries rise, name home frames, and have their blocks among the p page blocks of a stretch of at most half the area.
---   6. Every home frame's kept bytes are at its entry's block, or at home where it has none.
+--   6. Every needed home frame's kept bytes are at its entry's block, or at home where it has none.
 -- With a state and the book (`Invariant`):
 --   7. The card is such a one, with the state's committed generation.
 --   8. The three stretches follow each other, each at most half the area, together at most the area.
@@ -15,15 +15,15 @@
 --  10. All that waits fits memory.
 --  11. If one is pending, the commit number has a next.
 --  12. What is down of the pending directory and trailer is what will be read back, and none of it is down while a pending frame waits.
---  13. Committed entries that are copied home are at home as kept.
---  14. Pending over kept is marked, or kept where nothing is marked.
---  15. Current over that is present.
+--  13. Needed committed entries that are copied home are at home as kept.
+--  14. Pending over kept is marked, or kept where nothing is marked; also over other bytes where a frame is needed in marked and not in kept.
+--  15. Current over that is present; also over other bytes where a frame is needed in present and not in marked.
 -- Assumes nothing.
 use Prim.Native.Nat.{ℕ, suc, _+_, _*_, _/_, _≤_, _<_}
 use lib.ListN.{length, take}
-use mathlib.Core.Bool.{true}
+use mathlib.Core.Bool.{Bool, true, false, cond, false≢true}
 use mathlib.Core.List.{List, []}
-use mathlib.Core.Path.{_≡_}
+use mathlib.Core.Path.{_≡_, refl, sym, _∙_}
 use Rattle.card.specs.Block.{blockAt}
 use Rattle.card.specs.Bytes.{All}
 use Rattle.card.specs.Directory.{readDir}
@@ -33,7 +33,7 @@ use Rattle.card.specs.Range.{Range, geometryFits}
 use Rattle.card.specs.Ring.{ringAt}
 use Rattle.card.specs.Trailer.{trailerOn}
 use Rattle.recovery.proofs.Sorted.{Once, Absent, SortedGeneration, countOf, sizeOf, Sorted, sortedEmpty, trailerOf, tailBlock, trailerAt}
-use Rattle.recovery.specs.Book.{FrameBook, markedOr, WholeFrame}
+use Rattle.recovery.specs.Book.{FrameBook, markedOr, WholeFrame, Needs}
 use Rattle.recovery.specs.Contents.{Contents, overlay, storedFrames}
 use Rattle.recovery.specs.Sound.{Rising, Home, Between}
 
@@ -52,7 +52,7 @@ pub record Tail (c : List ℕ) (area commit : ℕ) (g : SortedGeneration) : Type
   pub dir-is : readDir c area (g .first) (g .pagesDown) (length (g .dir)) ≡ g .dir
 
 -- a card that shows kept when it is started
-pub record Recoverable (blocks area : ℕ) (ranges : List Range) (commit : ℕ) (g : SortedGeneration) (c : List ℕ) (kept : Contents) : Type 0 where
+pub record Recoverable (needed : Needs) (blocks area : ℕ) (ranges : List Range) (commit : ℕ) (g : SortedGeneration) (c : List ℕ) (kept : Contents) : Type 0 where
   pub whole : length c ≡ 512 * blocks  -- 1
   pub home : area < blocks  -- 1
   pub many : 11 ≤ blocks  -- 1
@@ -72,7 +72,7 @@ pub record Recoverable (blocks area : ℕ) (ranges : List Range) (commit : ℕ) 
   pub unset : commit ≡ 0 → headerOn (blockAt c 0) .trailer ≡ 0  -- 3
   pub fresh : commit ≡ 0 → g ≡ sortedEmpty 1  -- 3
   pub there : 0 < commit → Tail c area commit g  -- 4
-  pub view : (f : ℕ) → area < f → f < blocks → overlay (storedFrames c (g .dir)) (blockAt c) f ≡ kept f  -- 6
+  pub view : (f : ℕ) → area < f → f < blocks → needed kept f ≡ true → overlay (storedFrames c (g .dir)) (blockAt c) f ≡ kept f  -- 6
 
 -- a generation whose stretch starts lo places on from first
 pub record GenerationFits (blocks area first lo : ℕ) (g : SortedGeneration) : Type 0 where
@@ -86,8 +86,12 @@ pub record GenerationFits (blocks area first lo : ℕ) (g : SortedGeneration) : 
   pub apart : All (λ w. Absent (w .frame) (g .dir)) (g .waiting)
 
 -- a state, by its sorted form, with its card and the book
-pub record Invariant (blocks : ℕ) (s : Sorted) (c : List ℕ) (b : FrameBook) : Type 0 where
-  pub recoverable : Recoverable blocks (s .area) (s .ranges) (s .commit) (s .committed) c (b .kept)  -- 7
+-- needed in the second table and not in the first
+unfoldable pub fresh : Needs → Contents → Contents → ℕ → Bool
+fresh needed u v f = cond (needed u f) false (needed v f)
+
+pub record Invariant (needed : Needs) (blocks : ℕ) (s : Sorted) (c : List ℕ) (b : FrameBook) : Type 0 where
+  pub recoverable : Recoverable needed blocks (s .area) (s .ranges) (s .commit) (s .committed) c (b .kept)  -- 7
   pub half-pending : sizeOf (s .pending) ≤ s .area / 2  -- 8
   pub half-current : sizeOf (s .current) ≤ s .area / 2  -- 8
   pub seated : length (s .pending .waiting) + length (s .current .waiting) ≤ s .memoryFrames  -- 10
@@ -100,6 +104,37 @@ pub record Invariant (blocks : ℕ) (s : Sorted) (c : List ℕ) (b : FrameBook) 
   pub tailDown-fits : s .pending .pagesDown + s .tailDown ≤ sizeOf (s .pending)  -- 12
   pub tailDown-after : 0 < s .tailDown → s .pending .waiting ≡ []  -- 12
   pub tailDown-ok : (j : ℕ) → j < s .tailDown → blockAt c (ringAt (s .area) (s .pending .first) (s .pending .pagesDown + j)) ≡ tailBlock (suc (s .commit)) (s .pending) j  -- 12
-  pub migrated-ok : All (λ e. blockAt c (e .frame) ≡ b .kept (e .frame)) (take (s .migrated) (s .committed .dir))  -- 13
-  pub mark : (f : ℕ) → s .area < f → f < blocks → overlay (s .pending .waiting) (overlay (storedFrames c (s .pending .dir)) (b .kept)) f ≡ markedOr b f  -- 14
-  pub now : (f : ℕ) → s .area < f → f < blocks → overlay (s .current .waiting) (overlay (storedFrames c (s .current .dir)) (markedOr b)) f ≡ b .present f  -- 15
+  pub migrated-ok : All (λ e. needed (b .kept) (e .frame) ≡ true → blockAt c (e .frame) ≡ b .kept (e .frame)) (take (s .migrated) (s .committed .dir))  -- 13
+  pub mark : (u : Contents) (f : ℕ) → s .area < f → f < blocks → (fresh needed (b .kept) (markedOr b) f ≡ false → u f ≡ b .kept f)
+      → overlay (s .pending .waiting) (overlay (storedFrames c (s .pending .dir)) u) f ≡ markedOr b f  -- 14
+  pub now : (u : Contents) (f : ℕ) → s .area < f → f < blocks → (fresh needed (markedOr b) (b .present) f ≡ false → u f ≡ markedOr b f)
+      → overlay (s .current .waiting) (overlay (storedFrames c (s .current .dir)) u) f ≡ b .present f  -- 15
+
+-- ---- laws of `fresh`
+
+pub fresh-same : (needed : Needs) (v : Contents) (f : ℕ) → fresh needed v v f ≡ false
+unfolding fresh
+fresh-same needed v f = go (needed v f)
+  where
+    go : (t : Bool) → cond t false t ≡ false
+    go true = refl
+    go false = refl
+
+-- needed in the second and not fresh: needed in the first
+pub fresh-needed : (needed : Needs) (u v : Contents) (f : ℕ) → fresh needed u v f ≡ false → needed v f ≡ true → needed u f ≡ true
+unfolding fresh
+fresh-needed needed u v f h e = go (needed u f) h
+  where
+    go : (t : Bool) → cond t false (needed v f) ≡ false → t ≡ true
+    go true q = refl
+    go false q = absurd (false≢true (sym q ∙ e))
+
+-- what is not needed, or needed in the first table, is not fresh
+pub fresh-told : (needed : Needs) (u v : Contents) (f : ℕ) → (needed v f ≡ true → needed u f ≡ true) → fresh needed u v f ≡ false
+unfolding fresh
+fresh-told needed u v f h = go (needed u f) (needed v f) refl refl
+  where
+    go : (s t : Bool) → needed u f ≡ s → needed v f ≡ t → cond s false t ≡ false
+    go true t p q = refl
+    go false true p q = absurd (false≢true (sym p ∙ h q))
+    go false false p q = refl

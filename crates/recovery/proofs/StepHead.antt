@@ -3,6 +3,7 @@
 use Prim.Native.Nat.{ℕ, suc, _+_, _*_, _≤_, _<_}
 use lib.ListN.{length}
 use lib.Seq.{take-all}
+use mathlib.Core.Bool.{true}
 use mathlib.Core.List.{List, []}
 use mathlib.Core.Path.{_≡_, refl, sym, _∙_, subst}
 use native.Mathlib.Nat.{add-zero}
@@ -20,14 +21,14 @@ use Rattle.card.specs.Header.{headerBlock, headerOn}
 use Rattle.card.specs.Ring.{ringAt, dirBlocks}
 use Rattle.card.specs.Trailer.{trailerBlock}
 use Rattle.card.specs.declared.directory.Entry.{Entry}
-use Rattle.recovery.proofs.ContentsLaws.{overlay-base, storedFrames-same, overlay-without}
+use Rattle.recovery.proofs.ContentsLaws.{storedFrames-same, overlay-without}
 use Rattle.recovery.proofs.GenerationLaws.{home-kept}
-use Rattle.recovery.proofs.Invariant.{Tail, Recoverable, Invariant}
+use Rattle.recovery.proofs.Invariant.{Tail, Recoverable, Invariant, fresh-same, fresh-needed}
 use Rattle.recovery.proofs.SizeLaws.{quiet-count, quiet-size, empty-size}
 use Rattle.recovery.proofs.Sorted.{countOf, sizeOf, Sorted, sortedEmpty, trailerOf, tailBlock, trailerAt, headerDown, sortedWrite, cardAfter, sortedAfter}
 use Rattle.recovery.proofs.TailLaws.{tail-dir, tail-trailer}
 use Rattle.recovery.proofs.Writes.{pending-place}
-use Rattle.recovery.specs.Book.{FrameBook, markedOr, bookHeader}
+use Rattle.recovery.specs.Book.{FrameBook, markedOr, bookHeader, Needs}
 use Rattle.recovery.specs.Contents.{overlay, storedFrames}
 use Rattle.recovery.specs.Sound.{Home, Between}
 
@@ -38,7 +39,7 @@ shift area first s lo hi lo′ hi′ low high l h e p =
     let q = from-shift area first low high s (e .block) (p .0) (p .1) (omega arith) in
     (p .0, p .1, omega arith, omega arith)
 
-module _ (blocks : ℕ) (s : Sorted) (c : List ℕ) (b : FrameBook) (i : Invariant blocks s c b)
+module _ {needed : Needs} (blocks : ℕ) (s : Sorted) (c : List ℕ) (b : FrameBook) (i : Invariant needed blocks s c b)
     (some : 0 < countOf (s .pending)) (still : s .pending .waiting ≡ []) (all-tailDown : dirBlocks (length (s .pending .dir)) < s .tailDown) (all-migrated : length (s .committed .dir) ≤ s .migrated) where
   some-named : 1 ≤ length (s .pending .dir)
   some-named = omega (arith, quiet-count (s .pending) still)
@@ -117,17 +118,19 @@ module _ (blocks : ℕ) (s : Sorted) (c : List ℕ) (b : FrameBook) (i : Invaria
   same-storedFrames lo hi dir k = storedFrames-same c d dir
       (all-map (Between (s .area) (s .committed .first) lo hi) (λ e. blockAt d (e .block) ≡ blockAt c (e .block)) dir (λ e p. other (e .block) (p .0)) k)
 
-  -- what migration left at home is what was kept
-  home-is : (f : ℕ) → s .area < f → f < blocks → blockAt d f ≡ b .kept f
-  home-is f l k = other f (omega arith) ∙ home-kept c (s .committed .dir) (blockAt c) (b .kept) f
-      (rw (take-all (s .migrated) (s .committed .dir) all-migrated) at (i .migrated-ok)) (i .recoverable .view f l k)
+  -- what migration left at home is what was kept, where it is needed
+  home-is : (f : ℕ) → s .area < f → f < blocks → needed (b .kept) f ≡ true → blockAt d f ≡ b .kept f
+  home-is f l k t = other f (omega arith) ∙ home-kept (needed (b .kept)) c (s .committed .dir) (blockAt c) (b .kept) f
+      (rw (take-all (s .migrated) (s .committed .dir) all-migrated) at (i .migrated-ok)) t (i .recoverable .view f l k t)
 
-  new-view : (f : ℕ) → s .area < f → f < blocks → overlay (storedFrames d (s .pending .dir)) (blockAt d) f ≡ markedOr b f
-  new-view f l k =
+  -- a frame that is needed now and was not is in the pending directory, which hides what is at home
+  new-view : (f : ℕ) → s .area < f → f < blocks → needed (markedOr b) f ≡ true → overlay (storedFrames d (s .pending .dir)) (blockAt d) f ≡ markedOr b f
+  new-view f l k t =
       rw (same-storedFrames _ _ (s .pending .dir) (i .pending-ok .inside))
-      (overlay-base (storedFrames c (s .pending .dir)) (blockAt d) (b .kept) f (home-is f l k) ∙ sym (overlay-without (s .pending .waiting) (overlay (storedFrames c (s .pending .dir)) (b .kept)) f (rw still tt)) ∙ i .mark f l k)
+      (sym (overlay-without (s .pending .waiting) (overlay (storedFrames c (s .pending .dir)) (blockAt d)) f (rw still tt))
+      ∙ i .mark (blockAt d) f l k (λ e. home-is f l k (fresh-needed needed (b .kept) (markedOr b) f e t)))
 
-  new-recoverable : Recoverable blocks (s .area) (s .ranges) (suc (s .commit)) (s .pending) d (markedOr b)
+  new-recoverable : Recoverable needed blocks (s .area) (s .ranges) (suc (s .commit)) (s .pending) d (markedOr b)
   unfolding h d
   new-recoverable = record {
     whole = put-length c 0 h h-long fits ∙ i .recoverable .whole;
@@ -158,7 +161,7 @@ module _ (blocks : ℕ) (s : Sorted) (c : List ℕ) (b : FrameBook) (i : Invaria
     view = new-view;
   }
 
-  pub recoverable-H : Recoverable blocks (s .area) (s .ranges) (suc (s .commit)) (s .pending) (cardAfter headerDown s c) (bookHeader b .kept)
+  pub recoverable-H : Recoverable needed blocks (s .area) (s .ranges) (suc (s .commit)) (s .pending) (cardAfter headerDown s c) (bookHeader b .kept)
   unfolding sortedWrite h d
   recoverable-H = new-recoverable
 
@@ -169,7 +172,7 @@ module _ (blocks : ℕ) (s : Sorted) (c : List ℕ) (b : FrameBook) (i : Invaria
   current-at : s .current .first ≡ ringAt (s .area) (s .pending .first) (sizeOf (s .pending))
   current-at = i .current-first ∙ sym (pending-place blocks s c b i (sizeOf (s .pending)) (omega arith))
 
-  pub step-H : Invariant blocks (sortedAfter headerDown s) (cardAfter headerDown s c) (bookHeader b)
+  pub step-H : Invariant needed blocks (sortedAfter headerDown s) (cardAfter headerDown s c) (bookHeader b)
   unfolding sortedWrite sortedAfter h d overlay storedFrames countOf
   step-H =
       let none : sizeOf (sortedEmpty (s .current .first)) ≡ 0 = empty-size (s .current .first) in
@@ -199,6 +202,6 @@ module _ (blocks : ℕ) (s : Sorted) (c : List ℕ) (b : FrameBook) (i : Invaria
         tailDown-after = λ k. refl;
         tailDown-ok = λ j k. absurd (omega arith);
         migrated-ok = tt;
-        mark = λ f l k. refl;
-        now = λ f l k. rw (same-storedFrames _ _ (s .current .dir) (i .current-ok .inside)) (i .now f l k);
+        mark = λ u f l k e. e (fresh-same needed (markedOr b) f);
+        now = λ u f l k e. rw (same-storedFrames _ _ (s .current .dir) (i .current-ok .inside)) (i .now u f l k e);
       }

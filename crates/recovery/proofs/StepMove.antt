@@ -2,6 +2,7 @@
 -- Assumes nothing.
 use Prim.Native.Nat.{ℕ, _+_, _*_, _≤_, _<_}
 use lib.ListN.{length, take}
+use mathlib.Core.Bool.{true}
 use mathlib.Core.List.{List}
 use mathlib.Core.Logic.{_≢_}
 use mathlib.Core.Path.{_≡_, refl, sym, _∙_}
@@ -20,11 +21,11 @@ use Rattle.recovery.proofs.Harmless.{Harmless, moving, harmless-write}
 use Rattle.recovery.proofs.Invariant.{Invariant}
 use Rattle.recovery.proofs.Sorted.{sizeOf, Sorted, copyHome, nextHome, sortedWrite, cardAfter, sortedAfter}
 use Rattle.recovery.proofs.Writes.{pending-place}
-use Rattle.recovery.specs.Book.{FrameBook}
+use Rattle.recovery.specs.Book.{FrameBook, Needs}
 use Rattle.recovery.specs.Contents.{storedFrames}
 use Rattle.recovery.specs.Sound.{Home, Between}
 
-module _ (blocks : ℕ) (s : Sorted) (c : List ℕ) (b : FrameBook) (i : Invariant blocks s c b) (more : s .migrated < length (s .committed .dir)) where
+module _ {needed : Needs} (blocks : ℕ) (s : Sorted) (c : List ℕ) (b : FrameBook) (i : Invariant needed blocks s c b) (more : s .migrated < length (s .committed .dir)) where
   n : ℕ
   n = nextHome s .frame
 
@@ -46,12 +47,12 @@ module _ (blocks : ℕ) (s : Sorted) (c : List ℕ) (b : FrameBook) (i : Invaria
   unfolding x
   long = block-length c (nextHome s .block) (omega (arith, within .1, i .recoverable .whole, i .recoverable .home))
 
-  -- the copied bytes are the kept ones
-  right : x ≡ b .kept n
+  -- the copied bytes are the kept ones, where the frame is needed
+  right : needed (b .kept) n ≡ true → x ≡ b .kept n
   unfolding x n nextHome
-  right = sym (overlay-at c (s .committed .dir) (s .migrated) (blockAt c) _ (i .recoverable .rising) more) ∙ i .recoverable .view n (high .0) (high .1)
+  right t = sym (overlay-at c (s .committed .dir) (s .migrated) (blockAt c) _ (i .recoverable .rising) more) ∙ i .recoverable .view n (high .0) (high .1) t
 
-  pub copies-kept : blockAt c (nextHome s .block) ≡ b .kept (nextHome s .frame)
+  pub copies-kept : needed (b .kept) (nextHome s .frame) ≡ true → blockAt c (nextHome s .block) ≡ b .kept (nextHome s .frame)
   unfolding x n
   copies-kept = right
 
@@ -77,16 +78,16 @@ module _ (blocks : ℕ) (s : Sorted) (c : List ℕ) (b : FrameBook) (i : Invaria
       (all-map (Between (s .area) (s .committed .first) lo hi) (λ e. blockAt (putBlock c n x) (e .block) ≡ blockAt c (e .block)) dir
       (λ e p. other (e .block) (omega (arith, p .1, high))) h)
 
-  home-one : (f : ℕ) → blockAt c f ≡ b .kept f → Dec (f ≡ n) → blockAt (putBlock c n x) f ≡ b .kept f
-  home-one f h (yes e) = rw e (put-same c n x long fits ∙ right)
-  home-one f h (no d) = other f d ∙ h
+  home-one : (f : ℕ) → (needed (b .kept) f ≡ true → blockAt c f ≡ b .kept f) → Dec (f ≡ n) → needed (b .kept) f ≡ true → blockAt (putBlock c n x) f ≡ b .kept f
+  home-one f h (yes e) t = rw e (put-same c n x long fits ∙ right (rw e at t))
+  home-one f h (no d) t = other f d ∙ h t
 
   low-place : (k : ℕ) → k < sizeOf (s .pending) → ringAt (s .area) (s .pending .first) k ≢ n
   low-place k h =
       let inn = on-in (s .area) (s .committed .first) (i .recoverable .low) (i .recoverable .high) (sizeOf (s .committed) + k) (omega (arith, i .room)) in
       omega (arith, pending-place blocks s c b i k (omega arith), inn, high)
 
-  pub step-M : Invariant blocks (sortedAfter copyHome s) (cardAfter copyHome s c) b
+  pub step-M : Invariant needed blocks (sortedAfter copyHome s) (cardAfter copyHome s c) b
   unfolding sortedWrite sortedAfter n x nextHome
   step-M = record {
     recoverable = harmless-write blocks (s .area) (s .ranges) (s .commit) (s .committed) c (b .kept) (i .recoverable) n harmless x long;
@@ -102,10 +103,10 @@ module _ (blocks : ℕ) (s : Sorted) (c : List ℕ) (b : FrameBook) (i : Invaria
     tailDown-fits = i .tailDown-fits;
     tailDown-after = i .tailDown-after;
     tailDown-ok = λ j h. other _ (λ k. low-place (s .pending .pagesDown + j) (omega (arith, i .tailDown-fits)) k) ∙ i .tailDown-ok j h;
-    migrated-ok = all-next (λ e. blockAt (putBlock c n x) (e .frame) ≡ b .kept (e .frame)) (s .migrated) (s .committed .dir) _
-        (all-map (λ e. blockAt c (e .frame) ≡ b .kept (e .frame)) (λ e. blockAt (putBlock c n x) (e .frame) ≡ b .kept (e .frame)) (take (s .migrated) (s .committed .dir))
+    migrated-ok = all-next (λ e. needed (b .kept) (e .frame) ≡ true → blockAt (putBlock c n x) (e .frame) ≡ b .kept (e .frame)) (s .migrated) (s .committed .dir) _
+        (all-map (λ e. needed (b .kept) (e .frame) ≡ true → blockAt c (e .frame) ≡ b .kept (e .frame)) (λ e. needed (b .kept) (e .frame) ≡ true → blockAt (putBlock c n x) (e .frame) ≡ b .kept (e .frame)) (take (s .migrated) (s .committed .dir))
         (λ e h. home-one (e .frame) h (ℕ-discrete (e .frame) n)) (i .migrated-ok))
-        (put-same c n x long fits ∙ right);
-    mark = λ f l h. rw (area-storedFrames _ _ (s .pending .dir) (i .pending-ok .inside)) (i .mark f l h);
-    now = λ f l h. rw (area-storedFrames _ _ (s .current .dir) (i .current-ok .inside)) (i .now f l h);
+        (λ t. put-same c n x long fits ∙ right t);
+    mark = λ u f l h t. rw (area-storedFrames _ _ (s .pending .dir) (i .pending-ok .inside)) (i .mark u f l h t);
+    now = λ u f l h t. rw (area-storedFrames _ _ (s .current .dir) (i .current-ok .inside)) (i .now u f l h t);
   }

@@ -14,16 +14,16 @@ use Rattle.recovery.proofs.Invariant.{Invariant}
 use Rattle.recovery.proofs.SizeLaws.{pagedOut-count, pagedOut-size, pages-below, pagesDown-below}
 use Rattle.recovery.proofs.Sorted.{placesOf, countOf, sizeOf, Sorted, oldest, pendingOut, currentOut, pagedOut, sortedWrite, cardAfter, sortedAfter}
 use Rattle.recovery.proofs.Writes.{pending-place, spot-in, spot-at, spot-harmless, spot-recoverable, spot-same, spot-storedFrames, spot-migrated, spot-tailDown}
-use Rattle.recovery.specs.Book.{FrameBook, markedOr}
+use Rattle.recovery.specs.Book.{FrameBook, markedOr, Needs}
 
-pub none-tailDown : (blocks : ℕ) (s : Sorted) (c : List ℕ) (b : FrameBook) → Invariant blocks s c b → 0 < length (s .pending .waiting) → s .tailDown ≡ 0
+pub none-tailDown : {needed : Needs} (blocks : ℕ) (s : Sorted) (c : List ℕ) (b : FrameBook) → Invariant needed blocks s c b → 0 < length (s .pending .waiting) → s .tailDown ≡ 0
 none-tailDown blocks s c b i h = go (s .tailDown) refl
   where
     go : (k : ℕ) → s .tailDown ≡ k → s .tailDown ≡ 0
     go zero e = e
     go (suc k) e = absurd (omega (arith, ap length (i .tailDown-after (omega arith))))
 
-module _ (blocks : ℕ) (s : Sorted) (c : List ℕ) (b : FrameBook) (i : Invariant blocks s c b) (some : 0 < length (s .pending .waiting)) where
+module _ {needed : Needs} (blocks : ℕ) (s : Sorted) (c : List ℕ) (b : FrameBook) (i : Invariant needed blocks s c b) (some : 0 < length (s .pending .waiting)) where
   fits-P : s .pending .pagesDown < sizeOf (s .pending)
   unfolding placesOf
   fits-P = omega (arith, pages-below (s .pending) (i .pending-ok .any))
@@ -39,7 +39,7 @@ module _ (blocks : ℕ) (s : Sorted) (c : List ℕ) (b : FrameBook) (i : Invaria
   unfolding sortedWrite
   long-P = out-held blocks (s .area) (s .committed .first) (sizeOf (s .committed)) (s .pending) (i .pending-ok) some .0 .0
 
-  pub step-P : Invariant blocks (sortedAfter pendingOut s) (cardAfter pendingOut s c) b
+  pub step-P : Invariant needed blocks (sortedAfter pendingOut s) (cardAfter pendingOut s c) b
   unfolding sortedWrite sortedAfter
   step-P =
       let n : ℕ = ringAt (s .area) (s .pending .first) (s .pending .pagesDown) in
@@ -68,13 +68,13 @@ module _ (blocks : ℕ) (s : Sorted) (c : List ℕ) (b : FrameBook) (i : Invaria
         tailDown-after = λ h. absurd (omega arith);
         tailDown-ok = λ j h. absurd (omega arith);
         migrated-ok = spot-migrated blocks s c b i n q at-P up under x long;
-        mark = λ f l h. pagedOut-view blocks (s .area) (s .committed .first) (sizeOf (s .committed)) (s .pending) (i .pending-ok) some c (putBlock c n x) (b .kept) f
+        mark = λ u f l h t. pagedOut-view blocks (s .area) (s .committed .first) (sizeOf (s .committed)) (s .pending) (i .pending-ok) some c (putBlock c n x) u f
             (spot-same blocks s c b i n q at-P up under x long)
-            (spot-storedFrames blocks s c b i n q at-P up under x long _ _ (s .pending .dir) (i .pending-ok .inside) (λ m p k. omega arith)) ∙ i .mark f l h;
-        now = λ f l h. rw (spot-storedFrames blocks s c b i n q at-P up under x long _ _ (s .current .dir) (i .current-ok .inside) (λ m p k. omega (arith, fits-P))) (i .now f l h);
+            (spot-storedFrames blocks s c b i n q at-P up under x long _ _ (s .pending .dir) (i .pending-ok .inside) (λ m p k. omega arith)) ∙ i .mark u f l h t;
+        now = λ u f l h t. rw (spot-storedFrames blocks s c b i n q at-P up under x long _ _ (s .current .dir) (i .current-ok .inside) (λ m p k. omega (arith, fits-P))) (i .now u f l h t);
       }
 
-module _ (blocks : ℕ) (s : Sorted) (c : List ℕ) (b : FrameBook) (i : Invariant blocks s c b) (some : 0 < length (s .current .waiting)) where
+module _ {needed : Needs} (blocks : ℕ) (s : Sorted) (c : List ℕ) (b : FrameBook) (i : Invariant needed blocks s c b) (some : 0 < length (s .current .waiting)) where
   lo : ℕ
   lo = sizeOf (s .committed) + sizeOf (s .pending)
 
@@ -106,7 +106,7 @@ module _ (blocks : ℕ) (s : Sorted) (c : List ℕ) (b : FrameBook) (i : Invaria
       let from-pending : ringOffset (s .area) (s .pending .first) n ≡ ringOffset (s .area) (ringAt (s .area) (s .committed .first) (sizeOf (s .committed))) n = ap (λ (x : ℕ). ringOffset (s .area) x n) (i .pending-first) in
       free (inn .0) (inn .1) (omega (arith, there, at, from-pending))
 
-  pub step-C : Invariant blocks (sortedAfter currentOut s) (cardAfter currentOut s c) b
+  pub step-C : Invariant needed blocks (sortedAfter currentOut s) (cardAfter currentOut s c) b
   unfolding sortedWrite sortedAfter lo
   step-C =
       let n : ℕ = ringAt (s .area) (s .current .first) (s .current .pagesDown) in
@@ -133,8 +133,8 @@ module _ (blocks : ℕ) (s : Sorted) (c : List ℕ) (b : FrameBook) (i : Invaria
         tailDown-after = i .tailDown-after;
         tailDown-ok = spot-tailDown blocks s c b i n q at-C up under x long (λ k h. omega (arith, i .tailDown-fits));
         migrated-ok = spot-migrated blocks s c b i n q at-C up under x long;
-        mark = λ f l h. rw (spot-storedFrames blocks s c b i n q at-C up under x long _ _ (s .pending .dir) (i .pending-ok .inside) (λ m p k. omega (arith, pagesDown-below (s .pending) (i .pending-ok .any)))) (i .mark f l h);
-        now = λ f l h. pagedOut-view blocks (s .area) (s .committed .first) lo (s .current) (i .current-ok) some c (putBlock c n x) (markedOr b) f
+        mark = λ u f l h t. rw (spot-storedFrames blocks s c b i n q at-C up under x long _ _ (s .pending .dir) (i .pending-ok .inside) (λ m p k. omega (arith, pagesDown-below (s .pending) (i .pending-ok .any)))) (i .mark u f l h t);
+        now = λ u f l h t. pagedOut-view blocks (s .area) (s .committed .first) lo (s .current) (i .current-ok) some c (putBlock c n x) u f
             (spot-same blocks s c b i n q at-C up under x long)
-            (spot-storedFrames blocks s c b i n q at-C up under x long _ _ (s .current .dir) (i .current-ok .inside) (λ m p k. omega arith)) ∙ i .now f l h;
+            (spot-storedFrames blocks s c b i n q at-C up under x long _ _ (s .current .dir) (i .current-ok .inside) (λ m p k. omega arith)) ∙ i .now u f l h t;
       }

@@ -13,9 +13,9 @@ use Rattle.recovery.proofs.Invariant.{Invariant}
 use Rattle.recovery.proofs.Sorted.{sizeOf, Sorted, tailBlock, directoryDown, trailerDown, sortedWrite, cardAfter, sortedAfter}
 use Rattle.recovery.proofs.TailLaws.{tail-length}
 use Rattle.recovery.proofs.Writes.{pending-place, spot-harmless, spot-recoverable, spot-same, spot-storedFrames, spot-migrated, spot-tailDown}
-use Rattle.recovery.specs.Book.{FrameBook}
+use Rattle.recovery.specs.Book.{FrameBook, Needs}
 
-module _ (blocks : ℕ) (s : Sorted) (c : List ℕ) (b : FrameBook) (i : Invariant blocks s c b)
+module _ {needed : Needs} (blocks : ℕ) (s : Sorted) (c : List ℕ) (b : FrameBook) (i : Invariant needed blocks s c b)
     (still : s .pending .waiting ≡ []) (more : s .pending .pagesDown + s .tailDown < sizeOf (s .pending)) where
   n : ℕ
   n = ringAt (s .area) (s .pending .first) (s .pending .pagesDown + s .tailDown)
@@ -66,7 +66,7 @@ module _ (blocks : ℕ) (s : Sorted) (c : List ℕ) (b : FrameBook) (i : Invaria
       let e : j ≡ s .tailDown = omega arith in
       rw e (spot-same blocks s c b i n q at up under x long)
 
-  pub step-D : Invariant blocks (sortedAfter directoryDown s) (cardAfter directoryDown s c) b
+  pub step-D : Invariant needed blocks (sortedAfter directoryDown s) (cardAfter directoryDown s c) b
   unfolding sortedWrite sortedAfter n q x
   step-D = record {
     recoverable = spot-recoverable blocks s c b i n q at up under x long;
@@ -83,10 +83,10 @@ module _ (blocks : ℕ) (s : Sorted) (c : List ℕ) (b : FrameBook) (i : Invaria
     tailDown-after = λ h. still;
     tailDown-ok = λ j h. next-tailDown j h (decLt j (s .tailDown));
     migrated-ok = spot-migrated blocks s c b i n q at up under x long;
-    mark = λ f l h. rw (spot-storedFrames blocks s c b i n q at up under x long _ _ (s .pending .dir) (i .pending-ok .inside) (λ m p k. omega arith)) (i .mark f l h);
-    now = λ f l h. rw (spot-storedFrames blocks s c b i n q at up under x long _ _ (s .current .dir) (i .current-ok .inside) (λ m p k. omega arith)) (i .now f l h);
+    mark = λ u f l h t. rw (spot-storedFrames blocks s c b i n q at up under x long _ _ (s .pending .dir) (i .pending-ok .inside) (λ m p k. omega arith)) (i .mark u f l h t);
+    now = λ u f l h t. rw (spot-storedFrames blocks s c b i n q at up under x long _ _ (s .current .dir) (i .current-ok .inside) (λ m p k. omega arith)) (i .now u f l h t);
   }
 
-  pub step-T : Invariant blocks (sortedAfter trailerDown s) (cardAfter trailerDown s c) b
+  pub step-T : Invariant needed blocks (sortedAfter trailerDown s) (cardAfter trailerDown s c) b
   unfolding sortedWrite sortedAfter
   step-T = step-D

@@ -1,24 +1,27 @@
 -- The questions are the plain sums, and the write that is due is the first that remains.
 -- Assumes nothing.
-use Prim.Native.Nat.{ℕ, zero, suc, _+_, _-_, _≤_}
-use borrow.Author.Tests.{ltb-true, ltb-false, eqb-true, eqb-false, lt-ltb, le-ltb, ne-eqb}
+use Prim.Native.Nat.{ℕ, zero, suc, _+_, _-_, _≤_, _<_}
+use borrow.Author.Tests.{ltb-true, ltb-false, eqb-true, eqb-false, lt-ltb, le-ltb, eq-eqb, ne-eqb}
 use lib.Dec.{ltb, eqb}
-use lib.ListN.{length, replicate, length-append, length-set}
-use mathlib.Core.Bool.{Bool, true, false, cond}
+use lib.ListN.{length, replicate, drop, getD, length-append, length-set, length-drop}
+use lib.Seq.{getD-drop}
+use mathlib.Core.Bool.{Bool, true, false, cond, not, _&&_, _||_}
 use mathlib.Core.List.{List, [], _∷_, _++_}
 use mathlib.Core.Logic.{_≢_}
 use mathlib.Core.Option.{Option, none, some}
-use mathlib.Core.Path.{_≡_, refl, ap, sym, _∙_}
+use mathlib.Core.Path.{_≡_, refl, ap, sym, _∙_, subst}
+use native.Mathlib.Nat.{add-zero}
 use native.Mathlib.Omega.{arith}
 use Rattle.card.proofs.Test.{byTest}
 use Rattle.card.specs.Bytes.{All}
 use Rattle.card.specs.Ring.{dirBlocks}
+use Rattle.card.specs.declared.directory.Entry.{Entry}
 use Rattle.recovery.specs.Contents.{FrameBytes}
 use Rattle.recovery.specs.Directory.{Note, noteChange, turnOf}
 use Rattle.recovery.specs.Questions.{newPlaces, roomAsks, given, advanceAsks}
 use Rattle.recovery.specs.State.{Generation, State, places, entryCount, size, committedSize, isOwed, isFlushed}
-use Rattle.recovery.specs.Step.{queued, changeFrame, changeFrames, afterChange, Kind, page, directory, trailer, migration, header, flush, migrationDue, advanceDue}
-use Rattle.recovery.specs.Sums.{isSome, waitsIn, notedIn, placesNeeded, entriesNeeded, remainingWrites, firstOf, roomSums, advanceSums}
+use Rattle.recovery.specs.Step.{queued, changeFrame, changeFrames, afterChange, Kind, page, directory, trailer, migration, header, flush, migrationDue, advanceDue, migrating, passTo, nextMigration}
+use Rattle.recovery.specs.Sums.{isSome, waitsIn, notedIn, placesNeeded, entriesNeeded, remainingWrites, firstOf, roomSums, advanceSums, leading, movesOf, passedTo, movesLeft}
 
 -- no frame twice
 abbrev pub Distinct : List FrameBytes → Type 0
@@ -143,6 +146,20 @@ same-test a b = go (ltb a b) refl
     go true e = lt-ltb 0 (b - a) (omega (arith, ltb-true a b e))
     go false e = le-ltb 0 (b - a) (omega (arith, ltb-false a b e))
 
+same-suc : (a b : ℕ) → ltb (suc a) (suc b) ≡ ltb a b
+same-suc a b = go (ltb a b) refl
+  where
+    go : (t : Bool) → ltb a b ≡ t → ltb (suc a) (suc b) ≡ t
+    go true e = lt-ltb (suc a) (suc b) (omega (arith, ltb-true a b e))
+    go false e = le-ltb (suc a) (suc b) (omega (arith, ltb-false a b e))
+
+shift-test : (m a n : ℕ) → ltb (m + a) n ≡ ltb a (n - m)
+shift-test m a n = go (ltb a (n - m)) refl
+  where
+    go : (t : Bool) → ltb a (n - m) ≡ t → ltb (m + a) n ≡ t
+    go true e = lt-ltb (m + a) n (omega (arith, ltb-true a (n - m) e))
+    go false e = le-ltb (m + a) n (omega (arith, ltb-false a (n - m) e))
+
 repeated-only : (n : ℕ) (k : Kind) → firstOf (replicate n k) ≡ cond (ltb 0 n) (some k) none
 unfolding firstOf
 repeated-only zero k = refl
@@ -159,10 +176,107 @@ tail-test a b x y z = go (ltb a b) refl
     go true e = refl
     go false e = ap (λ (t : Bool). cond t y z) (same (ltb-false a b e) (eqb a b) refl)
 
-module _ (s : State) where
+-- of what is passed over
+
+leading-test : (over : ℕ → Bool) (es : List Entry) → ltb (leading over es) (length es) ≡ ltb 0 (movesOf over es)
+unfolding leading movesOf
+leading-test over [] = refl
+leading-test over (e ∷ es) = go (over (e .frame)) (leading-test over es)
+  where
+    go : (t : Bool) → ltb (leading over es) (length es) ≡ ltb 0 (movesOf over es)
+        → ltb (cond t (suc (leading over es)) 0) (suc (length es)) ≡ ltb 0 (cond t (movesOf over es) (suc (movesOf over es)))
+    go true h = same-suc (leading over es) (length es) ∙ h
+    go false h = lt-ltb 0 (suc (length es)) (omega arith) ∙ sym (lt-ltb 0 (suc (movesOf over es)) (omega arith))
+
+leading-within : (over : ℕ → Bool) (es : List Entry) → leading over es ≤ length es
+unfolding leading
+leading-within over [] = omega arith
+leading-within over (e ∷ es) = byTest (λ (n : ℕ). n ≤ suc (length es)) (over (e .frame)) {x = suc (leading over es)} {y = 0} (λ t. omega (arith, leading-within over es)) (λ t. omega arith)
+
+leading-over : (over : ℕ → Bool) (es : List Entry) (last : Entry) (j : ℕ) → j < leading over es → over (getD es j last .frame) ≡ true
+unfolding leading
+leading-over over [] last j = λ h. absurd (omega arith)
+leading-over over (e ∷ es) last j = go (leading-over over es last) (over (e .frame)) refl j
+  where
+    go : ((i : ℕ) → i < leading over es → over (getD es i last .frame) ≡ true) → (t : Bool) → over (e .frame) ≡ t → (j : ℕ) → j < cond t (suc (leading over es)) 0 → over (getD (e ∷ es) j last .frame) ≡ true
+    go rec false q j h = absurd (omega arith)
+    go rec true q zero h = q
+    go rec true q (suc j) h = rec j (omega arith)
+
+leading-next : (over : ℕ → Bool) (es : List Entry) (last : Entry) → leading over es < length es → over (getD es (leading over es) last .frame) ≡ false
+unfolding leading
+leading-next over [] last = λ h. absurd (omega arith)
+leading-next over (e ∷ es) last = go (leading-next over es last) (over (e .frame)) refl
+  where
+    go : (leading over es < length es → over (getD es (leading over es) last .frame) ≡ false) → (t : Bool) → over (e .frame) ≡ t → cond t (suc (leading over es)) 0 < suc (length es) → over (getD (e ∷ es) (cond t (suc (leading over es)) 0) last .frame) ≡ false
+    go rec false q h = q
+    go rec true q h = rec (omega arith)
+
+drop-over : (over : ℕ → Bool) (m : ℕ) (es : List Entry) (last : Entry) (j : ℕ) → m ≤ j → j < m + leading over (drop m es) → over (getD es j last .frame) ≡ true
+drop-over over m es last j l h =
+    let e : m + (j - m) ≡ j = omega arith in
+    rw (getD-drop m es (j - m) last, e) at (leading-over over (drop m es) last (j - m) (omega arith))
+
+drop-next : (over : ℕ → Bool) (m : ℕ) (es : List Entry) (last : Entry) → m + leading over (drop m es) < length es → over (getD es (m + leading over (drop m es)) last .frame) ≡ false
+drop-next over m es last h = rw (getD-drop m es (leading over (drop m es)) last) at (leading-next over (drop m es) last (omega (arith, length-drop m es)))
+
+at-most : (t : Bool) (n : ℕ) → cond t n 0 ≤ n
+at-most true n = omega arith
+at-most false n = omega arith
+
+module _ (over : ℕ → Bool) (s : State) where
+  -- how far it is where advance has come to migration
+  reach : ℕ
+  reach = s .migrated + leading over (drop (s .migrated) (s .committed .entries))
+
+  within-reach : passedTo over s ≤ reach
+  unfolding passedTo reach
+  within-reach = omega (arith, at-most (migrating s) (leading over (drop (s .migrated) (s .committed .entries))))
+
+  passed-migrating : (t : Bool) → migrating s ≡ t → passedTo over s ≡ s .migrated + cond t (leading over (drop (s .migrated) (s .committed .entries))) 0
+  unfolding passedTo
+  passed-migrating t e = ap (λ (x : Bool). s .migrated + cond x (leading over (drop (s .migrated) (s .committed .entries))) 0) e
+
+  -- no entry that is home comes back, and none is passed over before advance has come to migration
+  pub passed-more : s .migrated ≤ passedTo over s
+  unfolding passedTo
+  passed-more = omega arith
+
+  pub passed-early : migrating s ≡ false → passedTo over s ≡ s .migrated
+  passed-early e = passed-migrating false e ∙ add-zero (s .migrated)
+
+  pub passed-owed : isOwed (s .phase) ≡ true → passedTo over s ≡ s .migrated
+  unfolding migrating
+  passed-owed due = passed-early (ap (λ (t : Bool). not t && (eqb (entryCount (s .pending)) 0 || (not (ltb 0 (length (s .pending .waiting))) && ltb (dirBlocks (entryCount (s .pending))) (s .tailDown)))) due)
+
+  -- entries that are passed over, and the one that is not
+  pub passed-over : (j : ℕ) → s .migrated ≤ j → j < passedTo over s → over (nextMigration (passTo j s) .frame) ≡ true
+  unfolding reach nextMigration
+  passed-over j l h = drop-over over (s .migrated) (s .committed .entries) _ j l (omega (arith, h, within-reach))
+
+  pub passed-within : s .migrated ≤ length (s .committed .entries) → passedTo over s ≤ length (s .committed .entries)
+  unfolding reach
+  passed-within h = omega (arith, within-reach, leading-within over (drop (s .migrated) (s .committed .entries)), length-drop (s .migrated) (s .committed .entries))
+
+  reach-next : reach < length (s .committed .entries) → over (nextMigration (passTo reach s) .frame) ≡ false
+  unfolding reach nextMigration
+  reach-next h = drop-next over (s .migrated) (s .committed .entries) _ h
+
+  pub passed-next : migrating s ≡ true → passedTo over s < length (s .committed .entries) → over (nextMigration (passTo (passedTo over s) s) .frame) ≡ false
+  unfolding reach
+  passed-next e h = subst (λ (n : ℕ). over (nextMigration (passTo n s) .frame) ≡ false) (sym (passed-migrating true e)) (reach-next (omega (arith, h, passed-migrating true e)))
+
+  -- a copy is due exactly where one is left
+  moves-test : ltb reach (length (s .committed .entries)) ≡ ltb 0 (movesLeft over s)
+  unfolding reach movesLeft
+  moves-test =
+      shift-test (s .migrated) (leading over (drop (s .migrated) (s .committed .entries))) (length (s .committed .entries))
+      ∙ ap (ltb (leading over (drop (s .migrated) (s .committed .entries)))) (sym (length-drop (s .migrated) (s .committed .entries)))
+      ∙ leading-test over (drop (s .migrated) (s .committed .entries))
+
   -- the first that remains, by document 01's order: P, D, T, M, F, H with a snapshot pending, else only M
   moves : List Kind
-  moves = replicate (length (s .committed .entries) - s .migrated) migration
+  moves = replicate (movesLeft over s) migration
 
   ends : List Kind
   ends = cond (isFlushed (s .phase)) [] (flush ∷ []) ++ (header ∷ flush ∷ [])
@@ -175,17 +289,19 @@ module _ (s : State) where
       go true = unfold firstOf in refl
       go false = unfold firstOf in refl
 
-  last : firstOf (moves ++ ends) ≡ migrationDue s (some (cond (isFlushed (s .phase)) header flush))
-  unfolding moves migrationDue
-  last = repeated (length (s .committed .entries) - s .migrated) migration ends
-      ∙ (rw (first-end, same-test (s .migrated) (length (s .committed .entries))))
+  abbrev moved : Option Kind → Option Kind
+  moved other = cond (ltb reach (length (s .committed .entries))) (some migration) other
+
+  last : firstOf (moves ++ ends) ≡ moved (some (cond (isFlushed (s .phase)) header flush))
+  unfolding moves
+  last = repeated (movesLeft over s) migration ends ∙ (rw first-end (ap (λ (t : Bool). cond t (some migration) (some (cond (isFlushed (s .phase)) header flush))) (sym moves-test)))
 
   writes : List Kind
   writes = replicate (length (s .pending .waiting)) page
       ++ (replicate (dirBlocks (entryCount (s .pending)) - s .tailDown) directory ++ (replicate (1 - (s .tailDown - dirBlocks (entryCount (s .pending)))) trailer ++ (moves ++ ends)))
 
   rest : firstOf writes ≡ cond (ltb 0 (length (s .pending .waiting))) (some page) (cond (ltb (s .tailDown) (dirBlocks (entryCount (s .pending)))) (some directory)
-      (cond (eqb (s .tailDown) (dirBlocks (entryCount (s .pending)))) (some trailer) (migrationDue s (some (cond (isFlushed (s .phase)) header flush)))))
+      (cond (eqb (s .tailDown) (dirBlocks (entryCount (s .pending)))) (some trailer) (moved (some (cond (isFlushed (s .phase)) header flush)))))
   unfolding writes
   rest =
       repeated (length (s .pending .waiting)) page _
@@ -196,20 +312,50 @@ module _ (s : State) where
       (repeated (1 - (s .tailDown - dirBlocks (entryCount (s .pending)))) trailer _ ∙ ap (cond (ltb 0 (1 - (s .tailDown - dirBlocks (entryCount (s .pending))))) (some trailer)) last)
       ∙ tail-test (s .tailDown) (dirBlocks (entryCount (s .pending))) (some directory) (some trailer) _)))
 
-  idle : firstOf moves ≡ migrationDue s none
-  unfolding moves migrationDue
-  idle = repeated-only (length (s .committed .entries) - s .migrated) migration ∙ ap (λ (t : Bool). cond t (some migration) none) (same-test (s .migrated) (length (s .committed .entries)))
+  idle : firstOf moves ≡ moved none
+  unfolding moves
+  idle = repeated-only (movesLeft over s) migration ∙ ap (λ (t : Bool). cond t (some migration) none) (sym moves-test)
 
-  pub same-due : firstOf (remainingWrites s) ≡ advanceDue s
-  unfolding remainingWrites advanceDue moves ends writes
-  same-due = go (isOwed (s .phase)) (eqb (entryCount (s .pending)) 0)
+  abbrev dueBy : Bool → Bool → ℕ → Option Kind
+  dueBy z w n = cond z (cond (ltb n (length (s .committed .entries))) (some migration) none)
+      (cond w (some page) (cond (ltb (s .tailDown) (dirBlocks (entryCount (s .pending)))) (some directory)
+      (cond (eqb (s .tailDown) (dirBlocks (entryCount (s .pending)))) (some trailer)
+      (cond (ltb n (length (s .committed .entries))) (some migration) (some (cond (isFlushed (s .phase)) header flush))))))
+
+  abbrev dueAt : ℕ → Option Kind
+  dueAt n = dueBy (eqb (entryCount (s .pending)) 0) (ltb 0 (length (s .pending .waiting))) n
+
+  due-reach : firstOf (cond (eqb (entryCount (s .pending)) 0) moves writes) ≡ dueAt reach
+  due-reach = go (eqb (entryCount (s .pending)) 0)
     where
-      go : (o t : Bool) → firstOf (cond o (flush ∷ []) [] ++ cond t moves writes)
-          ≡ cond o (some flush) (cond t (migrationDue s none) (cond (ltb 0 (length (s .pending .waiting))) (some page) (cond (ltb (s .tailDown) (dirBlocks (entryCount (s .pending)))) (some directory)
-          (cond (eqb (s .tailDown) (dirBlocks (entryCount (s .pending)))) (some trailer) (migrationDue s (some (cond (isFlushed (s .phase)) header flush)))))))
-      go true t = unfold firstOf in refl
-      go false true = idle
-      go false false = rest
+      go : (t : Bool) → firstOf (cond t moves writes) ≡ cond t (moved none) (cond (ltb 0 (length (s .pending .waiting))) (some page) (cond (ltb (s .tailDown) (dirBlocks (entryCount (s .pending)))) (some directory)
+          (cond (eqb (s .tailDown) (dirBlocks (entryCount (s .pending)))) (some trailer) (moved (some (cond (isFlushed (s .phase)) header flush))))))
+      go true = idle
+      go false = rest
+
+  -- before advance has come to migration, how far that is does not matter
+  same-late : (d : Bool) → ltb (s .tailDown) (dirBlocks (entryCount (s .pending))) ≡ d → ltb (dirBlocks (entryCount (s .pending))) (s .tailDown) ≡ false → (x y : Option Kind)
+      → cond d (some directory) (cond (eqb (s .tailDown) (dirBlocks (entryCount (s .pending)))) (some trailer) x) ≡ cond d (some directory) (cond (eqb (s .tailDown) (dirBlocks (entryCount (s .pending)))) (some trailer) y)
+  same-late true low high x y = refl
+  same-late false low high x y =
+      rw (eq-eqb (s .tailDown) (dirBlocks (entryCount (s .pending))) (omega (arith, ltb-false (s .tailDown) (dirBlocks (entryCount (s .pending))) low, ltb-false (dirBlocks (entryCount (s .pending))) (s .tailDown) high)))
+
+  same-at : (z w t : Bool) → ltb (dirBlocks (entryCount (s .pending))) (s .tailDown) ≡ t
+      → dueBy z w reach ≡ dueBy z w (s .migrated + cond (z || (not w && t)) (leading over (drop (s .migrated) (s .committed .entries))) 0)
+  unfolding reach
+  same-at true w t e = refl
+  same-at false true t e = refl
+  same-at false false true e = refl
+  same-at false false false e = same-late (ltb (s .tailDown) (dirBlocks (entryCount (s .pending)))) refl e _ _
+
+  pub same-due : firstOf (remainingWrites over s) ≡ advanceDue (passTo (passedTo over s) s)
+  unfolding remainingWrites advanceDue migrationDue passedTo migrating moves ends writes
+  same-due = go (isOwed (s .phase))
+    where
+      go : (o : Bool) → firstOf (cond o (flush ∷ []) [] ++ cond (eqb (entryCount (s .pending)) 0) moves writes)
+          ≡ cond o (some flush) (dueAt (s .migrated + cond (not o && (eqb (entryCount (s .pending)) 0 || (not (ltb 0 (length (s .pending .waiting))) && ltb (dirBlocks (entryCount (s .pending))) (s .tailDown)))) (leading over (drop (s .migrated) (s .committed .entries))) 0))
+      go true = unfold firstOf in refl
+      go false = due-reach ∙ same-at (eqb (entryCount (s .pending)) 0) (ltb 0 (length (s .pending .waiting))) (ltb (dirBlocks (entryCount (s .pending))) (s .tailDown)) refl
 
 -- an advance is due exactly where a write remains
 pub given-first : (ks : List Kind) → given (firstOf ks) ≡ ltb 0 (length ks)
@@ -217,6 +363,6 @@ unfolding firstOf
 given-first [] = refl
 given-first (k ∷ ks) = sym (lt-ltb 0 (suc (length ks)) (omega arith))
 
-pub same-advance : (s : State) → advanceAsks s ≡ advanceSums s
+pub same-advance : (over : ℕ → Bool) (s : State) → advanceAsks (passTo (passedTo over s) s) ≡ advanceSums over s
 unfolding advanceAsks advanceSums
-same-advance s = rw (← (given-first (remainingWrites s)), same-due s)
+same-advance over s = rw (← (given-first (remainingWrites over s)), same-due over s)

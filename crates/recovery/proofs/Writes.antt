@@ -2,6 +2,7 @@
 -- Assumes nothing.
 use Prim.Native.Nat.{ℕ, suc, _+_, _*_, _≤_, _<_}
 use lib.ListN.{length, take}
+use mathlib.Core.Bool.{true}
 use mathlib.Core.List.{List, [], _∷_}
 use mathlib.Core.Logic.{_≢_}
 use mathlib.Core.Path.{_≡_, ap, sym, _∙_}
@@ -17,19 +18,19 @@ use Rattle.recovery.proofs.ContentsLaws.{storedFrames-same}
 use Rattle.recovery.proofs.Harmless.{Harmless, free, harmless-write}
 use Rattle.recovery.proofs.Invariant.{Recoverable, Invariant}
 use Rattle.recovery.proofs.Sorted.{sizeOf, Sorted, tailBlock}
-use Rattle.recovery.specs.Book.{FrameBook}
+use Rattle.recovery.specs.Book.{FrameBook, Needs}
 use Rattle.recovery.specs.Contents.{storedFrames}
 use Rattle.recovery.specs.Sound.{Home, Between}
 
 -- a place of the pending generation's stretch, counted from the committed one's first block
-pub pending-place : (blocks : ℕ) (s : Sorted) (c : List ℕ) (b : FrameBook) (i : Invariant blocks s c b) (k : ℕ) → k ≤ sizeOf (s .pending)
+pub pending-place : {needed : Needs} (blocks : ℕ) (s : Sorted) (c : List ℕ) (b : FrameBook) (i : Invariant needed blocks s c b) (k : ℕ) → k ≤ sizeOf (s .pending)
     → ringAt (s .area) (s .pending .first) k ≡ ringAt (s .area) (s .committed .first) (sizeOf (s .committed) + k)
 pending-place blocks s c b i k h =
     rw (i .pending-first) (on-on (s .area) (s .committed .first) (i .recoverable .low) (i .recoverable .high) (sizeOf (s .committed)) k (omega (arith, i .room)))
 
 -- ---- a write in the area, q places on from the committed generation's first block
 
-module _ (blocks : ℕ) (s : Sorted) (c : List ℕ) (b : FrameBook) (i : Invariant blocks s c b)
+module _ {needed : Needs} (blocks : ℕ) (s : Sorted) (c : List ℕ) (b : FrameBook) (i : Invariant needed blocks s c b)
     (n q : ℕ) (at : n ≡ ringAt (s .area) (s .committed .first) q) (above : sizeOf (s .committed) ≤ q) (below : q < s .area) where
   pub spot-in : (1 ≤ n) × (n ≤ s .area)
   spot-in = rw at (on-in (s .area) (s .committed .first) (i .recoverable .low) (i .recoverable .high) q (omega arith))
@@ -44,7 +45,7 @@ module _ (blocks : ℕ) (s : Sorted) (c : List ℕ) (b : FrameBook) (i : Invaria
   spot-fits = omega (arith, spot-in, i .recoverable .whole, i .recoverable .home)
 
   module _ (x : List ℕ) (long : length x ≡ 512) where
-    pub spot-recoverable : Recoverable blocks (s .area) (s .ranges) (s .commit) (s .committed) (putBlock c n x) (b .kept)
+    pub spot-recoverable : Recoverable needed blocks (s .area) (s .ranges) (s .commit) (s .committed) (putBlock c n x) (b .kept)
     spot-recoverable = harmless-write blocks (s .area) (s .ranges) (s .commit) (s .committed) c (b .kept) (i .recoverable) n spot-harmless x long
 
     pub spot-same : blockAt (putBlock c n x) n ≡ x
@@ -62,13 +63,13 @@ module _ (blocks : ℕ) (s : Sorted) (c : List ℕ) (b : FrameBook) (i : Invaria
     spot-other r h d = put-other c n x long spot-fits (ringAt (s .area) (s .committed .first) r)
         (λ k. d (sym (from-on (s .area) (s .committed .first) (i .recoverable .low) (i .recoverable .high) r h) ∙ ap (ringOffset (s .area) (s .committed .first)) k ∙ spot-at))
 
-    pub spot-migrated : All (λ e. blockAt (putBlock c n x) (e .frame) ≡ b .kept (e .frame)) (take (s .migrated) (s .committed .dir))
+    pub spot-migrated : All (λ e. needed (b .kept) (e .frame) ≡ true → blockAt (putBlock c n x) (e .frame) ≡ b .kept (e .frame)) (take (s .migrated) (s .committed .dir))
     spot-migrated = joined (take (s .migrated) (s .committed .dir)) (all-take (Home (s .area) blocks) (s .migrated) (s .committed .dir) (i .recoverable .named)) (i .migrated-ok)
       where
-        joined : (es : List Entry) → All (Home (s .area) blocks) es → All (λ e. blockAt c (e .frame) ≡ b .kept (e .frame)) es
-            → All (λ e. blockAt (putBlock c n x) (e .frame) ≡ b .kept (e .frame)) es
+        joined : (es : List Entry) → All (Home (s .area) blocks) es → All (λ e. needed (b .kept) (e .frame) ≡ true → blockAt c (e .frame) ≡ b .kept (e .frame)) es
+            → All (λ e. needed (b .kept) (e .frame) ≡ true → blockAt (putBlock c n x) (e .frame) ≡ b .kept (e .frame)) es
         joined [] h k = tt
-        joined (e ∷ es) h k = (put-other c n x long spot-fits (e .frame) (omega (arith, h .0, spot-in)) ∙ k .0, joined es (h .1) (k .1))
+        joined (e ∷ es) h k = ((λ t. put-other c n x long spot-fits (e .frame) (omega (arith, h .0, spot-in)) ∙ k .0 t), joined es (h .1) (k .1))
 
     -- what is down of the pending generation's directory stays
     pub spot-tailDown : ((k : ℕ) → k < s .pending .pagesDown + s .tailDown → sizeOf (s .committed) + k ≢ q) → (j : ℕ) → j < s .tailDown

@@ -2,10 +2,12 @@
 -- Assumes nothing.
 use Prim.Native.Nat.{ℕ, _<_}
 use lib.ListN.{length}
-use mathlib.Core.Bool.{Bool, cond}
+use mathlib.Core.Bool.{Bool, cond, true}
 use mathlib.Core.List.{List, [], _∷_}
+use mathlib.Core.Logic.{_≢_}
 use mathlib.Core.Option.{Option, none, some, Option·getD}
 use mathlib.Core.Path.{_≡_}
+use Rattle.card.specs.Bytes.{All}
 use Rattle.recovery.specs.Contents.{Contents, FrameBytes, overlay}
 use Rattle.recovery.specs.Step.{Kind, page, directory, trailer, migration, header, flush}
 
@@ -65,3 +67,13 @@ bookCut (some k) reached b = record { present = b .present; marked = b .marked; 
 
 abbrev pub WholeFrame : ℕ → ℕ → FrameBytes → Type 0
 WholeFrame area blocks w = (length (w .bytes) ≡ 512) × (area < w .frame) × (w .frame < blocks)
+
+-- ---- frames that need not go home
+
+-- The layer above says which frames of a table are needed: of every other one it never looks at the bytes, so that they may be lost.
+abbrev pub Needs : Type 0
+Needs = Contents → ℕ → Bool
+
+-- a change hands down every frame that it makes needed
+abbrev pub Brings : Needs → ℕ → ℕ → List FrameBytes → Contents → Type 0
+Brings needed area blocks ws v = (f : ℕ) → area < f → f < blocks → All (λ w. f ≢ w .frame) ws → needed (applyChanges ws v) f ≡ true → needed v f ≡ true

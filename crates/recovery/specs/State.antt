@@ -48,7 +48,7 @@ pub record State : Type 0 where
   pub memoryFrames : ℕ
   pub commit : ℕ
   pub committed : Committed
-  pub migrated : ℕ  -- committed entries copied home
+  pub migrated : ℕ  -- committed entries copied home or passed over
   pub pending : Generation
   pub tailDown : ℕ  -- blocks of the pending directory and trailer that are down
   pub current : Generation
@@ -76,6 +76,11 @@ waitingFrames g = waitingFrom (g .entries) (g .pagesDown) (g .waiting)
 
 unfoldable pub empty : ℕ → Generation
 empty first = record { first = first; pagesDown = 0; entries = []; waiting = [] }
+
+-- ---- what the committed generation shows: its entries over home
+
+unfoldable pub committedFrame : State → List ℕ → Contents
+committedFrame s c = overlay (storedFrames c (s .committed .entries)) (blockAt c)
 
 -- ---- read: the newest of current, pending, committed, home
 

@@ -3,7 +3,7 @@
 use Prim.Native.Nat.{ℕ, suc, _+_, _/_}
 use lib.Dec.{ltb, eqb}
 use lib.ListN.{length, set, getD}
-use mathlib.Core.Bool.{cond}
+use mathlib.Core.Bool.{Bool, cond, not, _&&_, _||_}
 use mathlib.Core.List.{List, [], _∷_, _++_, tail}
 use mathlib.Core.Option.{Option, none, some}
 use Rattle.card.specs.Block.{blockAt}
@@ -62,6 +62,22 @@ phaseTo p s = record {
   tailDown = s .tailDown;
   current = s .current;
   phase = p;
+}
+
+-- the state with its first n committed entries at home or passed over
+abbrev pub passTo : ℕ → State → State
+passTo n s = record {
+  blocks = s .blocks;
+  area = s .area;
+  ranges = s .ranges;
+  memoryFrames = s .memoryFrames;
+  commit = s .commit;
+  committed = s .committed;
+  migrated = n;
+  pending = s .pending;
+  tailDown = s .tailDown;
+  current = s .current;
+  phase = s .phase;
 }
 
 -- ---- a change of frames
@@ -219,6 +235,10 @@ advanceDue s = cond (isOwed (s .phase)) (some flush) (cond (eqb (entryCount (s .
     (cond (ltb (s .tailDown) (dirBlocks (entryCount (s .pending)))) (some directory)
     (cond (eqb (s .tailDown) (dirBlocks (entryCount (s .pending)))) (some trailer)
     (migrationDue s (some (cond (isFlushed (s .phase)) header flush)))))))
+
+-- has advance come to migration? no flush is owed, and of a pending snapshot all but the header is down
+unfoldable pub migrating : State → Bool
+migrating s = not (isOwed (s .phase)) && (eqb (entryCount (s .pending)) 0 || (not (ltb 0 (length (s .pending .waiting))) && ltb (dirBlocks (entryCount (s .pending))) (s .tailDown)))
 
 -- page-out: pending before current
 unfoldable pub pageOutWrite : State → BlockWrite

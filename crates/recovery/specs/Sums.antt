@@ -1,17 +1,18 @@
 -- Questions 12 to 14 and 20 once more, as plain sums over the ledger: each number has a sum behind it, and this is what demand 2 holds it to.
 -- Assumes nothing.
-use Prim.Native.Nat.{ℕ, _+_, _-_}
+use Prim.Native.Nat.{ℕ, suc, _+_, _-_}
 use lib.Dec.{leb, ltb, eqb}
-use lib.ListN.{length, replicate}
+use lib.ListN.{length, replicate, drop}
 use mathlib.Core.Bool.{Bool, true, false, cond}
 use mathlib.Core.List.{List, [], _∷_, _++_}
 use mathlib.Core.Option.{Option, none, some}
 use Rattle.card.specs.Question.{Question, ask}
 use Rattle.card.specs.Ring.{half, dirBlocks, generationSize}
+use Rattle.card.specs.declared.directory.Entry.{Entry}
 use Rattle.recovery.specs.Contents.{FrameBytes}
 use Rattle.recovery.specs.Directory.{Note, turnOf}
 use Rattle.recovery.specs.State.{Generation, State, places, entryCount, isOwed, isFlushed}
-use Rattle.recovery.specs.Step.{Kind, page, directory, trailer, migration, header, flush}
+use Rattle.recovery.specs.Step.{Kind, page, directory, trailer, migration, header, flush, migrating}
 
 abbrev pub isSome : Option ℕ → Bool
 isSome none = false
@@ -38,12 +39,29 @@ entriesNeeded (w ∷ ws) g = cond (notedIn (w .frame) (g .entries)) 0 1 + entrie
 abbrev pub sizeAfter : List FrameBytes → State → ℕ
 sizeAfter ws s = generationSize (places (s .current) + placesNeeded ws (s .current)) (entryCount (s .current) + entriesNeeded ws (s .current))
 
+-- Of entries that are not home yet: how many in front are passed over, and how many there are to copy. `over` tells the
+-- frames that are passed over (#104).
+unfoldable pub leading : (ℕ → Bool) → List Entry → ℕ
+leading over [] = 0
+leading over (e ∷ es) = cond (over (e .frame)) (suc (leading over es)) 0
+
+unfoldable pub movesOf : (ℕ → Bool) → List Entry → ℕ
+movesOf over [] = 0
+movesOf over (e ∷ es) = cond (over (e .frame)) (movesOf over es) (suc (movesOf over es))
+
+unfoldable pub movesLeft : (ℕ → Bool) → State → ℕ
+movesLeft over s = movesOf over (drop (s .migrated) (s .committed .entries))
+
+-- how many entries are home or passed over once advance has come to migration; before that none is passed over
+unfoldable pub passedTo : (ℕ → Bool) → State → ℕ
+passedTo over s = s .migrated + cond (migrating s) (leading over (drop (s .migrated) (s .committed .entries))) 0
+
 -- What advance has still to make, in document 01's order, with document 02's flushes (#110): one that is owed first,
--- one before the header write unless it is made, one after it.
-unfoldable pub remainingWrites : State → List Kind
-remainingWrites s =
+-- one before the header write unless it is made, one after it; frames that are passed over are not copied (#104).
+unfoldable pub remainingWrites : (ℕ → Bool) → State → List Kind
+remainingWrites over s =
     let e = entryCount (s .pending) in
-    let m = replicate (length (s .committed .entries) - s .migrated) migration in
+    let m = replicate (movesLeft over s) migration in
     cond (isOwed (s .phase)) (flush ∷ []) []
     ++ cond (eqb e 0) m
     (replicate (length (s .pending .waiting)) page
@@ -64,5 +82,5 @@ roomSums ws s =
     ∷ ask 14 (leb (length (s .pending .waiting) + length (s .current .waiting) + k) (s .memoryFrames)) ∷ [])
 
 -- 20: a write remains
-unfoldable pub advanceSums : State → List Question
-advanceSums s = ask 20 (ltb 0 (length (remainingWrites s))) ∷ []
+unfoldable pub advanceSums : (ℕ → Bool) → State → List Question
+advanceSums over s = ask 20 (ltb 0 (length (remainingWrites over s))) ∷ []

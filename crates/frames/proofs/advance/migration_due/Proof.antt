@@ -3,7 +3,7 @@
 use borrow.Author.Needs.{needs}
 use mathlib.Core.Bool.{false}
 use mathlib.Core.Path.{_≡_}
-use Rattle.frames.proofs.DueLaws.{advance-none, advance-done, migration-put, not-owed, due-idle, due-nothing}
+use Rattle.frames.proofs.DueLaws.{advance-done, migration-put, not-owed, due-idle}
 use Rattle.frames.proofs.ReadyLaws.{ready, writable}
 use Rattle.frames.specs.Promise.{reported}
 use Rattle.record.proofs.Held.{Held, held}
@@ -18,24 +18,18 @@ good a = held (a .args .s) (ready (a .args .s) _ _ (a .pre .0) .together)
 
 -- no flush is owed
 calm : (a : tie.Start) → isOwed (phaseOf (a .args .s .phase)) ≡ false
-calm a = not-owed (a .args .s) (a .pre .1 .1) (good a)
+calm a = not-owed (a .args .s) (a .pre .1 .1 .1) (good a)
 
 migrate-requires : tie.Need-migrate-requires
 migrate-requires c κs =
-    let at-start = c .before .before .before .before .before in
-    (writable (at-start .args .s) _ _ (ready (at-start .args .s) _ _ (at-start .pre .0)) (at-start .pre .1 .1), (c .before .if1 .taken))
+    let at-start = c .before .before .before in
+    (writable (at-start .args .s) _ _ (ready (at-start .args .s) _ _ (at-start .pre .0)) (at-start .pre .1 .1 .1), (at-start .pre .1 .1 .0))
 
 returns : tie.Need-returns
 unfolding reported
 returns c =
-    let at-start = c .before .before .before .before .before .before .before .before .before in
-    advance-done (at-start .args .s) _ _ (at-start .pre .0) migration migration-put _ _ (due-idle (at-start .args .s) _ (calm at-start) (at-start .pre .1 .0) (c .before .before .before .before .before .if1 .taken)) ((c .before .before .before .migrate .ensures) _)
-
-returns-2 : tie.Need-returns-2
-unfolding reported
-returns-2 c =
-    let at-start = c .before .before .before .before in
-    advance-none (at-start .args .s) _ _ (at-start .pre .0) (due-nothing (at-start .args .s) _ (calm at-start) (at-start .pre .1 .0) (c .if1 .left))
+    let at-start = c .before .before .before .before .before .before .before in
+    advance-done (at-start .args .s) _ _ (at-start .pre .0) migration migration-put _ _ (due-idle (at-start .args .s) _ (calm at-start) (at-start .pre .1 .0) (at-start .pre .1 .1 .0)) ((c .before .before .before .migrate .ensures) _)
 
 pub migration-due-spec : {M : Type 1} → statement M
 migration-due-spec =
@@ -43,5 +37,4 @@ migration-due-spec =
     (tie.spec
     migrate-requires
     (λ c. search needs)
-    returns
-    returns-2)
+    returns)

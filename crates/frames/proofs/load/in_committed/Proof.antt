@@ -1,6 +1,7 @@
 -- `frames::load::in_committed` meets its contract.
 -- Assumes nothing.
 use borrow.Author.Needs.{needs}
+use mathlib.Core.Path.{refl}
 use native.Mathlib.Omega.{arith}
 use Rattle.frames.proofs.LoadLaws.{at-home, at-committed}
 use Rattle.record.proofs.Held.{held, bounds}
@@ -10,7 +11,7 @@ use Rattle.frames.proofs.load.in_committed.Tie as tie
 returns : tie.Need-returns
 returns c =
     let at-start = c .before .before .before .before .before .before in
-    at-home (at-start .args .s) (c .before .before .before .find .ensures) _ (c .before .if1 .taken) (c .from-short .ensures .0) (at-start .pre .1)
+    (at-home (at-start .args .s) (c .before .before .before .find .ensures) _ (c .before .if1 .taken) (c .from-short .ensures .0) (at-start .pre .1), refl)
 
 at-requires : tie.Need-at-requires
 at-requires c κs =
@@ -20,7 +21,7 @@ at-requires c κs =
 returns-2 : tie.Need-returns-2
 returns-2 c =
     let at-start = c .before .before .before .before .before .before .before .before in
-    at-committed (at-start .args .s) (c .before .before .before .before .before .find .ensures) (held (at-start .args .s) (at-start .pre .0)) _ (c .before .before .before .if1 .left) (c .at .ensures .0)
+    (at-committed (at-start .args .s) (c .before .before .before .before .before .find .ensures) (held (at-start .args .s) (at-start .pre .0)) _ (c .before .before .before .if1 .left) (c .at .ensures .0), refl)
 
 pub in-committed-spec : {M : Type 1} → statement M
 in-committed-spec =

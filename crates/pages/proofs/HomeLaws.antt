@@ -1,0 +1,148 @@
+-- What the code asks of a committed entry's frame, and how many entries are passed over.
+-- Assumes nothing.
+use Prim.Native.Nat.{ℕ, suc, _+_, _≤_, _<_}
+use lib.ListN.{length, getD, drop, length-drop}
+use lib.Seq.{drop-cons}
+use mathlib.Core.Bool.{Bool, true, false, cond, not}
+use mathlib.Core.List.{List, [], _∷_}
+use mathlib.Core.Path.{_≡_, refl, ap, sym, _∙_}
+use native.Mathlib.Nat.{zero-add}
+use native.Mathlib.Omega.{arith}
+use Rattle.card.proofs.AllLaws.{all-at}
+use Rattle.card.proofs.BytesLaws.{tab-length, tab-getD, none-long}
+use Rattle.card.proofs.DirectoryLaws.{entries-length}
+use Rattle.card.proofs.RangeLaws.{geometry-tells}
+use Rattle.card.specs.Directory.{entryIn, entriesOf}
+use Rattle.card.specs.Pot.{flagsAt, isZero}
+use Rattle.card.specs.Range.{rangeIn, rangesOf, allBlocks}
+use Rattle.card.specs.declared.directory.Entry.{Entry}
+use Rattle.card.specs.declared.range.Address.{Address}
+use Rattle.card.specs.declared.range.Lookup.the-variants.{Located, Outside}
+use Rattle.frames.specs.Parts.{Readable, MigratingIs}
+use Rattle.frames.specs.Promise.{lent, meaningOf, LoadsCommitted}
+use Rattle.pages.proofs.NeededLaws.{At, at-tells, pot-needed, page-needed}
+use Rattle.pages.specs.Needed.{pageAt}
+use Rattle.pages.specs.Page.{flagged}
+use Rattle.pages.specs.Promise.{committedFrames, over, passedOf, OverIs, PassedIs}
+use Rattle.record.proofs.Held.{held, bounds}
+use Rattle.record.specs.Holds.{holdsTogether}
+use Rattle.record.specs.Meaning.{committedOf, phaseOf}
+use Rattle.record.specs.declared.store.Store.{Store}
+use Rattle.recovery.proofs.Accept.{entries-told}
+use Rattle.recovery.proofs.SumLaws.{passed-within, passed-more, passed-early, passed-owed}
+use Rattle.recovery.specs.Sound.{Home}
+use Rattle.recovery.specs.Sums.{leading, passedTo}
+
+not-not : (t : Bool) → t ≡ not (not t)
+not-not true = refl
+not-not false = refl
+
+module _ (s : Store) (card : List ℕ) (w : Readable s card) where
+  -- its geometry
+  pub home-full : s .geometry .blocks ≡ 1 + s .geometry .area + allBlocks (rangesOf (s .geometry .ranges) (s .geometry .count))
+  home-full = geometry-tells (s .geometry .blocks) (s .geometry .area) (rangesOf (s .geometry .ranges) (s .geometry .count)) (held s (w .together) .geometry) .full
+
+  pub home-searchable : (s .geometry .area ≤ 512) × (s .geometry .count ≤ 8)
+  unfolding rangesOf
+  home-searchable =
+      let g = held s (w .together) in
+      let few = geometry-tells (s .geometry .blocks) (s .geometry .area) (rangesOf (s .geometry .ranges) (s .geometry .count)) (g .geometry) .few in
+      (bounds s g .area-high, rw (tab-length (rangeIn (s .geometry .ranges)) 0 (s .geometry .count)) at few)
+
+  module _ (f : ℕ) where
+    -- a pot is not passed over
+    pub over-none : pageAt (rangesOf (s .geometry .ranges) (s .geometry .count)) (1 + s .geometry .area) f ≡ Outside → OverIs s card f false
+    over-none e = λ memory. sym (ap not (pot-needed (rangesOf (s .geometry .ranges) (s .geometry .count)) (s .geometry .area) (s .geometry .blocks) home-full (committedFrames (lent s memory card)) f e))
+
+    module _ (p : Address) (e : pageAt (rangesOf (s .geometry .ranges) (s .geometry .count)) (1 + s .geometry .area) f ≡ Located p) where
+      told : At (rangesOf (s .geometry .ranges) (s .geometry .count)) (1 + s .geometry .area) (1 + s .geometry .area + allBlocks (rangesOf (s .geometry .ranges) (s .geometry .count))) f p
+      told = at-tells (rangesOf (s .geometry .ranges) (s .geometry .count)) (1 + s .geometry .area) f p e
+
+      pub pot-inside : p .pot < s .geometry .blocks
+      pot-inside = omega (arith, told .pot-high, home-full)
+
+      pub entry-inside : p .entry < 102
+      entry-inside = told .entry-high
+
+      -- a page is where its flag is set in the committed view of its pot
+      pub over-some : (pot : List ℕ) → ((memory : List ℕ) → LoadsCommitted (lent s memory card) (p .pot) pot) → (r : Bool) → r ≡ isZero (flagsAt pot (p .entry)) → OverIs s card f r
+      over-some pot is r q = λ memory. q ∙ ap (λ (x : List ℕ). isZero (flagsAt x (p .entry))) (is memory) ∙ not-not (flagged (committedFrames (lent s memory card)) p)
+          ∙ sym (ap not (page-needed (rangesOf (s .geometry .ranges) (s .geometry .count)) (s .geometry .area) (s .geometry .blocks) home-full (committedFrames (lent s memory card)) f p e))
+
+-- ---- how many are passed over
+
+add-suc : (a b : ℕ) → a + suc b ≡ suc a + b
+add-suc a b = omega arith
+
+-- the i-th entry on are still to be looked at
+abbrev pub PassedFrom : Store → List ℕ → ℕ → Type 0
+PassedFrom s card i = (memory : List ℕ) → passedOf (lent s memory card) ≡ i + leading (over (lent s memory card)) (drop i (committedOf s .entries))
+
+-- none is passed over before advance has come to migration
+pub passed-start : (s : Store) (card : List ℕ) (t : Bool) → MigratingIs s t → t ≡ true → PassedFrom s card (s .migrated)
+unfolding passedOf passedTo
+passed-start s card t is e = λ memory.
+    ap (λ (x : Bool). s .migrated + cond x (leading (over (lent s memory card)) (drop (s .migrated) (committedOf s .entries))) 0) (sym (is memory) ∙ e)
+
+pub passed-none : (s : Store) (card : List ℕ) (t : Bool) → MigratingIs s t → t ≡ false → PassedIs s card (s .migrated)
+unfolding passedOf
+passed-none s card t is e = λ memory. sym (passed-early (over (lent s memory card)) (meaningOf (lent s memory card)) (sym (is memory) ∙ e))
+
+module _ (s : Store) (card : List ℕ) where
+  entries-long : length (committedOf s .entries) ≡ s .committed .count
+  entries-long = entries-length (s .committed .frames) (s .committed .blocks) (s .committed .count)
+
+  none : Entry
+  none = record { frame = 0; block = 0 }
+
+  module _ (i : ℕ) (more : i < s .committed .count) where
+    -- its frame
+    frame-is : getD (committedOf s .entries) i none .frame ≡ getD (s .committed .frames) i 0
+    unfolding entriesOf
+    frame-is = rw (tab-getD (entryIn (s .committed .frames) (s .committed .blocks)) 0 (s .committed .count) i none more, zero-add i) refl
+
+    next-is : drop i (committedOf s .entries) ≡ getD (committedOf s .entries) i none ∷ drop (suc i) (committedOf s .entries)
+    next-is = drop-cons (committedOf s .entries) i none (omega (arith, more, entries-long))
+
+    pub frame-home : holdsTogether s ≡ true → (s .geometry .area < getD (s .committed .frames) i 0) × (getD (s .committed .frames) i 0 < s .geometry .blocks)
+    frame-home q =
+        let h = held s q in
+        let all = entries-told (s .geometry .blocks) (s .geometry .area) (s .first) (s .pages) (s .geometry .area) (committedOf s .entries) (omega arith) (h .committed) .1 .0 in
+        rw frame-is at (all-at (Home (s .geometry .area) (s .geometry .blocks)) (committedOf s .entries) i none all (omega (arith, more, entries-long)))
+
+    leads : (o : ℕ → Bool) (t : Bool) → t ≡ o (getD (s .committed .frames) i 0)
+        → leading o (drop i (committedOf s .entries)) ≡ cond t (suc (leading o (drop (suc i) (committedOf s .entries)))) 0
+    unfolding leading
+    leads o t e = rw (next-is, frame-is, ← e) refl
+
+    pub passed-stop : (f : ℕ) → f ≡ getD (s .committed .frames) i 0 → (r : Bool) → OverIs s card f r → r ≡ false → PassedFrom s card i → PassedIs s card i
+    passed-stop f e r o z p = λ memory. sym (p memory ∙ ap (λ (n : ℕ). i + n) (leads (over (lent s memory card)) false (sym z ∙ o memory ∙ ap (over (lent s memory card)) e)) ∙ omega arith)
+
+    pub passed-next : (f : ℕ) → f ≡ getD (s .committed .frames) i 0 → (r : Bool) → OverIs s card f r → r ≡ true → PassedFrom s card i → PassedFrom s card (i + 1)
+    passed-next f e r o z p = λ memory.
+        let one : suc i ≡ i + 1 = omega arith in
+        p memory ∙ ap (λ (n : ℕ). i + n) (leads (over (lent s memory card)) true (sym z ∙ o memory ∙ ap (over (lent s memory card)) e))
+        ∙ add-suc i (leading (over (lent s memory card)) (drop (suc i) (committedOf s .entries)))
+        ∙ ap (λ (k : ℕ). k + leading (over (lent s memory card)) (drop k (committedOf s .entries))) one
+
+  pub passed-end : (i : ℕ) → s .committed .count ≤ i → PassedFrom s card i → PassedIs s card i
+  unfolding leading
+  passed-end i h p = λ memory. sym (p memory ∙ ap (λ (l : List Entry). i + leading (over (lent s memory card)) l) ends ∙ omega arith)
+    where
+      ends : drop i (committedOf s .entries) ≡ []
+      ends = none-long (drop i (committedOf s .entries)) (omega (arith, length-drop i (committedOf s .entries), entries-long, h))
+
+  -- no entry that is home comes back
+  pub passed-low : (i : ℕ) (memory : List ℕ) → PassedIs s card i → s .migrated ≤ i
+  unfolding passedOf
+  passed-low i memory p = omega (arith, p memory, passed-more (over (lent s memory card)) (meaningOf (lent s memory card)))
+
+  -- none is passed over while a flush is owed
+  pub passed-due : (i : ℕ) (memory : List ℕ) → s .phase ≡ 2 → PassedIs s card i → i ≡ s .migrated
+  unfolding passedOf phaseOf
+  passed-due i memory o p = p memory ∙ passed-owed (over (lent s memory card)) (meaningOf (lent s memory card)) (rw o refl)
+
+  -- it is no more than there are
+  pub passed-few : (i : ℕ) (memory : List ℕ) → holdsTogether s ≡ true → PassedIs s card i → i ≤ s .committed .count
+  unfolding passedOf
+  passed-few i memory q p = omega (arith, p memory, passed-within (over (lent s memory card)) (meaningOf (lent s memory card)) (omega (arith, entries-long, held s q .migrated-within)), entries-long)

@@ -1,0 +1,86 @@
+// The page at a home block, and how many committed entries are home or passed over: migration copies no page whose
+// flag is set in the committed generation's view of its pot.
+use super::named;
+use card::number;
+use card::range;
+use card::range::Address;
+use card::range::Lookup;
+use frames::advance;
+use frames::load;
+use record::list;
+use record::store::Store;
+ghost use mathlib.Core.Path.{_≡_};
+ghost use Prim.Native.Nat.{_+_, _≤_, _<_};
+ghost use Rattle.card.specs.Range.{rangesOf};
+ghost use Rattle.frames.specs.Parts.{Readable};
+ghost use Rattle.pages.specs.Needed.{pageIn, pageAt};
+ghost use Rattle.pages.specs.Promise.{OverIs, PassedIs};
+
+// Block o of a range whose first block is start.
+fn page_in(start: usize, o: usize) -> Lookup
+    requires { ⌜ (start ≤ 65536) × (o ≤ 65536) ⌝ }
+    ensures { λ r. ⌜ r ≡ pageIn start o ⌝ }
+{
+    let place = o % 103;
+    if place == 0 {
+        return Lookup::Outside;
+    }
+    let address = Address {
+        page: start + o,
+        pot: start + 103 * (o / 103),
+        entry: place - 1,
+    };
+    Lookup::Located(address)
+}
+
+// The place of the page whose home block is f.
+pub fn page_at(area: usize, numbers: &[u32; 16], count: usize, f: usize) -> Lookup
+    requires { ⌜ (area ≤ 512) × ((count ≤ 8) × ((area < f) × (f ≤ 65536))) ⌝ }
+    ensures { λ r. ⌜ r ≡ pageAt (rangesOf (now (numbers .entry)) count) (1 + area) f ⌝ }
+{
+    let mut start = 1 + area;
+    let mut i = 0;
+    while i < count {
+        let pages = number::wide(numbers[2 * i + 1]);
+        let next = start + range::blocks(pages);
+        if f < next {
+            return page_in(start, f - start);
+        }
+        start = next;
+        i += 1;
+    }
+    Lookup::Outside
+}
+
+// Does migration pass over a frame?
+fn is_over(s: Store, card: &[u8], f: usize) -> bool
+    requires { ⌜ Readable s (now card) × ((s .geometry .area < f) × (f < s .geometry .blocks)) ⌝ }
+    ensures { λ r. ⌜ OverIs s (now (card .entry)) f r ⌝ }
+{
+    let g = s.geometry;
+    match page_at(g.area, &g.ranges, g.count, f) {
+        Lookup::Located(address) => {
+            named::is_zero(load::committed(s, card, address.pot), address.entry)
+        },
+        Lookup::Outside => false,
+    }
+}
+
+// How many committed entries are home or passed over. Nothing is looked up before advance has come to migration.
+pub fn passed(s: Store, card: &[u8]) -> usize
+    requires { ⌜ Readable s (now card) ⌝ }
+    ensures { λ r. ⌜ PassedIs s (now (card .entry)) r ⌝ }
+{
+    let d = s.committed;
+    let mut i = s.migrated;
+    if !advance::migrating(s) {
+        return i;
+    }
+    while i < d.count {
+        if !is_over(s, card, list::at(&d.frames, i)) {
+            return i;
+        }
+        i += 1;
+    }
+    i
+}
