@@ -9,10 +9,11 @@ use frames::advance;
 use frames::load;
 use record::list;
 use record::store::Store;
+ghost use mathlib.Core.Bool.{true};
 ghost use mathlib.Core.Path.{_≡_};
 ghost use Prim.Native.Nat.{_+_, _≤_, _<_};
 ghost use Rattle.card.specs.Range.{rangesOf};
-ghost use Rattle.frames.specs.Parts.{Readable};
+ghost use Rattle.frames.specs.Parts.{Readable, MigratingIs};
 ghost use Rattle.pages.specs.Needed.{pageIn, pageAt};
 ghost use Rattle.pages.specs.Promise.{OverIs, PassedIs};
 
@@ -66,21 +67,29 @@ fn is_over(s: Store, card: &[u8], f: usize) -> bool
     }
 }
 
-// How many committed entries are home or passed over. Nothing is looked up before advance has come to migration.
-pub fn passed(s: Store, card: &[u8]) -> usize
-    requires { ⌜ Readable s (now card) ⌝ }
+// Where advance has come to migration: the entries that are home, and those behind them that are passed over.
+fn reached(s: Store, card: &[u8]) -> usize
+    requires { ⌜ Readable s (now card) × MigratingIs s true ⌝ }
     ensures { λ r. ⌜ PassedIs s (now (card .entry)) r ⌝ }
 {
-    let d = s.committed;
+    let frames = s.committed.frames;
     let mut i = s.migrated;
-    if !advance::migrating(s) {
-        return i;
-    }
-    while i < d.count {
-        if !is_over(s, card, list::at(&d.frames, i)) {
+    while i < s.committed.count {
+        if !is_over(s, card, list::at(&frames, i)) {
             return i;
         }
         i += 1;
     }
     i
+}
+
+// How many committed entries are home or passed over. Nothing is looked up before advance has come to migration.
+pub fn passed(s: Store, card: &[u8]) -> usize
+    requires { ⌜ Readable s (now card) ⌝ }
+    ensures { λ r. ⌜ PassedIs s (now (card .entry)) r ⌝ }
+{
+    if advance::migrating(s) {
+        return reached(s, card);
+    }
+    s.migrated
 }
