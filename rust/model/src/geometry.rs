@@ -147,6 +147,19 @@ impl Geometry {
         })
     }
 
+    /// The place of the page that is home at that block, if it is no pot.
+    pub fn page_at(&self, block: usize) -> Option<Place> {
+        let placed = self.placed_ranges();
+        let (start, _) = placed.into_iter().rfind(|(start, _)| *start <= block)?;
+        let x = block - start;
+        let entry = (x % 103).checked_sub(1)?;
+        Some(Place {
+            page: block,
+            pot: start + 103 * (x / 103),
+            at: 5 * entry,
+        })
+    }
+
     /// The home blocks of all pots.
     pub fn pots(&self) -> Vec<usize> {
         let mut pots = Vec::new();

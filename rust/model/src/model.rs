@@ -172,9 +172,41 @@ impl Model {
         store.page_out(card)
     }
 
+    /// The committed frames that M passes over: each page whose flag is set in
+    /// the committed generation's view of its pot.
+    pub fn passed_over(&self) -> Vec<usize> {
+        let Some(store) = &self.store else {
+            return Vec::new();
+        };
+        let committed = store.committed.iter();
+        let frames = committed.flat_map(|committed| committed.entries.iter().map(|entry| entry.0));
+        frames
+            .filter(|frame| self.is_kept_empty(store, *frame))
+            .collect()
+    }
+
+    /// Is it a page that start would show as zeros?
+    fn is_kept_empty(&self, store: &Store, frame: usize) -> bool {
+        let Some(place) = store.geometry.page_at(frame) else {
+            return false;
+        };
+        let bytes = blocks::get(&self.card, store.kept_block(place.pot));
+        Pot { place, bytes }.flag()
+    }
+
+    /// The kind that advance makes next, if one is due.
+    pub fn due(&self) -> Option<Kind> {
+        self.store.as_ref()?.due(&self.passed_over())
+    }
+
     /// Done, it says the kind and the block it wrote, 0 for a flush.
     pub fn advance(&mut self, lent: Lent) -> Result<(Kind, usize), Refusal> {
+        self.advance_past(lent, &self.passed_over())
+    }
+
+    /// An advance that is told which frames M passes over.
+    pub fn advance_past(&mut self, lent: Lent, over: &[usize]) -> Result<(Kind, usize), Refusal> {
         let (store, card) = self.asked_to_change(lent)?;
-        store.advance(card)
+        store.advance(card, over)
     }
 }

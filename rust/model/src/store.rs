@@ -1,5 +1,5 @@
 //! The frame layer: what the record means, and the calls that know nothing of
-//! keys, counts or flags.
+//! keys, counts or flags. Which frames M passes over the layer above tells.
 
 use crate::blocks::{self, Block, ENTRIES};
 use crate::generation::{directory_blocks, size, Changes, Committed, Pending};
@@ -148,13 +148,14 @@ impl Store {
         Err(19)
     }
 
-    /// The kind that advance makes next, if one is due.
-    pub fn due(&self) -> Option<Kind> {
+    /// The kind that advance makes next, if one is due, with these frames
+    /// passed over by M.
+    pub fn due(&self, over: &[usize]) -> Option<Kind> {
         if self.phase == Phase::Owed {
             return Some(Kind::F);
         }
         let committed = self.committed.as_ref();
-        let migrating = committed.is_some_and(|committed| committed.to_migrate().is_some());
+        let migrating = committed.is_some_and(|committed| committed.to_migrate(over).is_some());
         let Some(pending) = &self.pending else {
             return migrating.then_some(Kind::M);
         };
@@ -174,25 +175,30 @@ impl Store {
     }
 
     /// Writes no block. After the flush that was owed all else may go on; any
-    /// other is the one before a header write.
-    fn flush(&mut self) -> usize {
-        self.phase = match self.phase {
-            Phase::Owed => Phase::Writing,
-            Phase::Writing | Phase::Flushed => Phase::Flushed,
-        };
+    /// other is the one before a header write, when migration is over.
+    fn flush(&mut self, over: &[usize]) -> usize {
+        if self.phase == Phase::Owed {
+            self.phase = Phase::Writing;
+            return 0;
+        }
+        if let Some(committed) = &mut self.committed {
+            committed.pass(over);
+        }
+        self.phase = Phase::Flushed;
         0
     }
 
-    /// One block write or a flush; says its kind and block.
-    pub fn advance(&mut self, card: &mut [u8]) -> Result<(Kind, usize), Refusal> {
-        let kind = self.due().ok_or(20u32)?;
+    /// One block write or a flush, with these frames passed over by M; says
+    /// its kind and block.
+    pub fn advance(&mut self, card: &mut [u8], over: &[usize]) -> Result<(Kind, usize), Refusal> {
+        let kind = self.due(over).ok_or(20u32)?;
         let block = match kind {
             Kind::P => self.page_out(card)?,
-            Kind::M => self.migrate(card).ok_or(20u32)?,
+            Kind::M => self.migrate(card, over).ok_or(20u32)?,
             Kind::D => self.put_directory(card).ok_or(20u32)?,
             Kind::T => self.put_trailer(card).ok_or(20u32)?,
             Kind::H => self.put_header(card).ok_or(20u32)?,
-            Kind::F => self.flush(),
+            Kind::F => self.flush(over),
         };
         Ok((kind, block))
     }
@@ -237,10 +243,11 @@ impl Store {
         Some(block)
     }
 
-    /// Copies an area block to its home frame.
-    fn migrate(&mut self, card: &mut [u8]) -> Option<usize> {
+    /// Copies the next area block that is not passed over to its home frame.
+    fn migrate(&mut self, card: &mut [u8], over: &[usize]) -> Option<usize> {
         let committed = self.committed.as_mut()?;
-        let (frame, block) = committed.to_migrate()?;
+        committed.pass(over);
+        let (frame, block) = committed.to_migrate(over)?;
         let bytes = blocks::get(card, block);
         blocks::put(card, frame, &bytes);
         committed.migrated += 1;

@@ -1,5 +1,5 @@
-//! Document 01's lane tables, the whole run with document 02's flushes, and
-//! where a flush is due, shown of the model.
+//! Document 01's lane tables, the whole run with document 02's flushes, where
+//! a flush is due, and which pages stay out of home, shown of the model.
 
 use model::blocks::{get, number};
 use model::generation::size;
@@ -7,16 +7,23 @@ use model::geometry::BLOCK;
 use model::Kind::{D, F, H, M, P, T};
 use model::{Geometry, Kind, Lent, Model, Range};
 
+/// What each byte of a card is before its format.
+const FILLER: u8 = 0xA5;
+
 /// A 8, one range of the given pages from OID 100 on, memory of 4 frames.
 fn small(pages: u32) -> (Model, Lent) {
+    with_area(8, pages)
+}
+
+fn with_area(area: usize, pages: u32) -> (Model, Lent) {
     let range = Range { first: 100, pages };
-    let card = (1 + 8 + range.blocks()) * BLOCK;
+    let card = (1 + area + range.blocks()) * BLOCK;
     let lent = Lent {
         card,
         memory: 4 * BLOCK,
     };
-    let mut model = Model::new(vec![0xA5; card]);
-    assert_eq!(model.format(card, 8, &[100, pages]), Ok(()));
+    let mut model = Model::new(vec![FILLER; card]);
+    assert_eq!(model.format(card, area, &[100, pages]), Ok(()));
     assert_eq!(model.start(lent), Ok(()));
     (model, lent)
 }
@@ -32,7 +39,17 @@ fn advances(model: &mut Model, lent: Lent) -> Vec<(Kind, usize)> {
 fn commit_up_to(kind: Kind, model: &mut Model, lent: Lent) {
     assert_eq!(model.write(lent, 100, 0, 0, &[7]), Ok(()));
     assert_eq!(model.snapshot(lent), Ok(()));
+    advance_up_to(kind, model, lent);
+}
+
+fn advance_up_to(kind: Kind, model: &mut Model, lent: Lent) {
     while model.advance(lent).expect("an advance is due").0 != kind {}
+}
+
+/// How many committed entries are home or passed over.
+fn migrated(model: &Model) -> Option<usize> {
+    let committed = model.store.as_ref()?.committed.as_ref()?;
+    Some(committed.migrated)
 }
 
 #[test]
@@ -45,6 +62,22 @@ fn places_of_a_to_c() {
     assert_eq!(into_range(0), (1, 0));
     assert_eq!(into_range(101), (102, 0));
     assert_eq!(into_range(102), (104, 103));
+}
+
+/// Each home block is a pot or the page of one OID.
+#[test]
+fn pages_at_blocks() {
+    let geometry = Geometry::new(135, 8, &[100, 103, 1000, 20]).expect("the ranges fill the card");
+    for oid in (100..203).chain(1000..1020) {
+        let place = geometry.place(oid).expect("the OID is in a range");
+        assert_eq!(geometry.page_at(place.page), Some(place));
+    }
+    assert_eq!(geometry.pots(), [9, 112, 114]);
+    assert!(geometry
+        .pots()
+        .iter()
+        .all(|pot| geometry.page_at(*pot).is_none()));
+    assert_eq!(9 + 123 + geometry.pots().len(), 135);
 }
 
 #[test]
@@ -195,6 +228,100 @@ fn page_out_before_the_header_brings_no_second_flush() {
     assert_eq!(model.page_out(lent), Ok(5));
     assert_eq!(model.advance(lent), Ok((H, 0)));
     assert_eq!(model.advance(lent), Ok((F, 0)));
+}
+
+/// #104's case: M for the pot only, and 20. Home keeps what it held before the
+/// format, and the page is zeros, also behind a later commit.
+#[test]
+fn empty_page_stays_out_of_home() {
+    let (mut model, lent) = small(1);
+    assert_eq!(model.advance(lent), Ok((F, 0)));
+    assert_eq!(model.write(lent, 100, 0, 0, &[7]), Ok(()));
+    assert_eq!(model.rescind(lent, 100, 0), Ok(()));
+    assert_eq!(model.snapshot(lent), Ok(()));
+    let before = [(P, 1), (P, 2), (D, 3), (T, 4), (F, 0), (H, 0)];
+    let after = [(F, 0), (M, 9)];
+    assert_eq!(advances(&mut model, lent), [&before[..], &after].concat());
+    assert_eq!(get(&model.card, 10), [FILLER; BLOCK]);
+
+    assert_eq!(model.rescind(lent, 100, 1), Ok(()));
+    assert_eq!(model.snapshot(lent), Ok(()));
+    advance_up_to(H, &mut model, lent);
+    assert_eq!(model.start(lent), Ok(()));
+    assert_eq!(model.read(lent, 100, 2, BLOCK), Ok([0; BLOCK]));
+    assert_eq!(get(&model.card, 10), [FILLER; BLOCK]);
+}
+
+/// H does not wait for what is passed over. It counts as migrated from the next
+/// M or the flush before H on, and not by a refusal.
+#[test]
+fn flush_before_the_header_counts_what_is_passed_over() {
+    let (mut model, lent) = small(1);
+    assert_eq!(model.write(lent, 100, 0, 0, &[7]), Ok(()));
+    assert_eq!(model.rescind(lent, 100, 0), Ok(()));
+    assert_eq!(model.snapshot(lent), Ok(()));
+    advance_up_to(M, &mut model, lent);
+    assert_eq!(model.advance(lent), Err(20));
+    assert_eq!(migrated(&model), Some(1));
+    assert_eq!(model.rescind(lent, 100, 1), Ok(()));
+    assert_eq!(model.snapshot(lent), Ok(()));
+    let advances = [(P, 5), (D, 6), (T, 7), (F, 0), (H, 0)];
+    for (advance, count) in advances.into_iter().zip([1, 1, 1, 2, 0]) {
+        assert_eq!(model.advance(lent), Ok(advance));
+        assert_eq!(migrated(&model), Some(count));
+    }
+}
+
+/// Page 101, at block 15, is passed over on the way from page 100 to 102.
+#[test]
+fn migration_counts_what_it_passes_over() {
+    let (mut model, lent) = with_area(12, 3);
+    for oid in 100..103 {
+        assert_eq!(model.write(lent, oid, 0, 0, &[7]), Ok(()));
+    }
+    assert_eq!(model.rescind(lent, 101, 0), Ok(()));
+    assert_eq!(model.snapshot(lent), Ok(()));
+    advance_up_to(H, &mut model, lent);
+    let advances = [(F, 0), (M, 13), (M, 14), (M, 16)];
+    for (advance, count) in advances.into_iter().zip([0, 1, 2, 4]) {
+        assert_eq!(model.advance(lent), Ok(advance));
+        assert_eq!(migrated(&model), Some(count));
+    }
+    assert_eq!(model.advance(lent), Err(20));
+}
+
+/// A directory with the page and not its pot, whose flag at home is set, which
+/// only another program could have left.
+#[test]
+fn pot_at_home_tells_where_the_directory_has_none() {
+    let (mut model, lent) = small(1);
+    for byte in [7, 8] {
+        assert_eq!(model.write(lent, 100, 0, 0, &[byte]), Ok(()));
+        assert_eq!(model.snapshot(lent), Ok(()));
+        advances(&mut model, lent);
+    }
+    model.card[9 * BLOCK + 4] |= 1;
+    assert_eq!(model.start(lent), Ok(()));
+    assert_eq!(advances(&mut model, lent), [(F, 0)]);
+    assert_eq!(model.read(lent, 100, 0, BLOCK), Ok([0; BLOCK]));
+}
+
+/// Page 100 was rescinded after the second snapshot, so what that one shows of
+/// it must go home before the second H.
+#[test]
+fn page_goes_home_that_is_empty_only_by_now() {
+    let (mut model, lent) = with_area(12, 2);
+    assert_eq!(model.write(lent, 100, 0, 0, &[7]), Ok(()));
+    assert_eq!(model.snapshot(lent), Ok(()));
+    assert_eq!(model.write(lent, 101, 0, 0, &[8]), Ok(()));
+    advance_up_to(H, &mut model, lent);
+    assert_eq!(model.snapshot(lent), Ok(()));
+    assert_eq!(model.rescind(lent, 100, 0), Ok(()));
+    advance_up_to(H, &mut model, lent);
+    assert_eq!(model.start(lent), Ok(()));
+    let mut page = [0; BLOCK];
+    page[0] = 7;
+    assert_eq!(model.read(lent, 100, 0, BLOCK), Ok(page));
 }
 
 #[test]

@@ -15,7 +15,7 @@ use crate::run::{run_steps, Failure};
 use crate::tally::Tally;
 use crate::trial::Trial;
 use model::geometry::BLOCK;
-use model::{Kind, Model, Phase, Store};
+use model::{Kind, Model, Phase};
 
 /// Which states of the store are doctored.
 #[derive(Clone, Copy)]
@@ -78,7 +78,10 @@ impl State {
         State { owed: true, ..self }
     }
 
-    fn is(&self, store: &Store) -> bool {
+    fn is(&self, model: &Model) -> bool {
+        let Some(store) = &model.store else {
+            return false;
+        };
         let entries = store.committed.as_ref().map(|c| c.entries.len());
         let special = match self.size {
             Size::Wide => entries > Some(64) && store.geometry.blocks < 500,
@@ -86,9 +89,9 @@ impl State {
         };
         special
             && entries.is_some() == self.committed
-            && store.due() == self.due
             && store.pending.is_some() == self.pending
             && (store.phase == Phase::Owed) == self.owed
+            && model.due() == self.due
     }
 }
 
@@ -134,8 +137,7 @@ pub fn in_state<L: Library>(
                 let failure = Failure { step: i + 1, what };
                 return Err(Failed::List(Box::new(whole), failure));
             }
-            let store = trial.reference.store.as_ref();
-            if store.is_some_and(|store| state.is(store)) {
+            if state.is(&trial.reference) {
                 return Ok(go_on(&mut trial)?);
             }
         }

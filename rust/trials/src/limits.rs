@@ -5,7 +5,7 @@ use crate::call::{Answer, Call};
 use crate::cuts::{add_all, named};
 use model::blocks::number;
 use model::geometry::BLOCK;
-use model::{Geometry, Kind, Lent, Range, Store};
+use model::{Geometry, Kind, Lent, Model, Range};
 use std::ops::RangeInclusive;
 
 /// A limit of question 5, kept or passed.
@@ -125,8 +125,11 @@ impl Limits {
         }
     }
 
-    /// An answer, with the store after it.
-    pub fn count_full(&mut self, answer: &Answer, store: &Store) {
+    /// An answer, with the model after it.
+    pub fn count_full(&mut self, answer: &Answer, model: &Model) {
+        let Some(store) = &model.store else {
+            return;
+        };
         let committed = store.committed.as_ref();
         let full = committed.filter(|committed| committed.entries.len() == FULL);
         match (answer, full) {
@@ -136,7 +139,8 @@ impl Limits {
             }
             (Answer::Wrote(Kind::H, _), Some(_)) => self.full[COMMITTED] += 1,
             (Answer::Wrote(Kind::M, _), Some(committed)) => {
-                self.full[MIGRATED] += u64::from(committed.migrated == FULL);
+                let left = committed.to_migrate(&model.passed_over());
+                self.full[MIGRATED] += u64::from(left.is_none());
             }
             _ => {}
         }

@@ -158,11 +158,13 @@ impl<'t, L: Library, R: Reference> Trial<'t, L, R> {
         if let Some(told) = told(call, lent, &self.stock.card) {
             self.tally.limits.count_asked(call, answer, &told);
         }
-        let Some(store) = &self.reference.model().store else {
-            return;
-        };
-        self.tally.limits.count_full(answer, store);
-        if let (Call::Snapshot, Some(pending)) = (call, &store.pending) {
+        let model = self.reference.model();
+        self.tally.limits.count_full(answer, model);
+        let pending = model
+            .store
+            .as_ref()
+            .and_then(|store| store.pending.as_ref());
+        if let (Call::Snapshot, Some(pending)) = (call, pending) {
             self.tally.fullest = self.tally.fullest.max(pending.changes.e());
         }
     }

@@ -119,8 +119,8 @@ impl Breaker<'_> {
         }
         let pending = self.store.pending.as_ref();
         let committed = self.store.committed.as_ref();
-        let to_copy = committed.is_some_and(|c| c.to_migrate().is_some());
-        let all_down = pending.is_some_and(|p| p.trailer_down) && !to_copy;
+        let all_home = committed.is_none_or(|c| c.migrated == c.entries.len());
+        let all_down = pending.is_some_and(|p| p.trailer_down) && all_home;
         let begun = committed.is_some_and(|c| c.migrated > 0)
             || pending.is_some_and(|p| p.directory_down > 0 || p.trailer_down);
         self.hold_phase(WRITING);

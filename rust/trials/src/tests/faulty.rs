@@ -134,8 +134,8 @@ impl Faulty {
     }
 
     fn skip_trailer(&mut self) -> Option<()> {
-        let store = self.model.store.as_mut()?;
-        if store.due() == Some(Kind::T) {
+        if self.model.due() == Some(Kind::T) {
+            let store = self.model.store.as_mut()?;
             store.pending.as_mut()?.trailer_down = true;
         }
         Some(())
@@ -178,8 +178,7 @@ impl Faulty {
     }
 
     fn advance_to_header(&mut self, lent: Lent) -> Reply {
-        let due = self.model.store.as_ref().and_then(Store::due);
-        if due == Some(Kind::F) && self.phase() == Some(Phase::Writing) {
+        if self.model.due() == Some(Kind::F) && self.phase() == Some(Phase::Writing) {
             self.set_phase(Phase::Flushed);
         }
         self.model.make(&Call::Advance, lent, &[])
