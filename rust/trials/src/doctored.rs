@@ -14,6 +14,7 @@ use crate::rng::Rng;
 use crate::run::{run_steps, Failure};
 use crate::tally::Tally;
 use crate::trial::Trial;
+use model::generation::Committed;
 use model::geometry::BLOCK;
 use model::{Kind, Model, Phase};
 
@@ -25,12 +26,14 @@ pub struct State {
     due: Option<Kind>,
     pending: bool,
     owed: bool,
+    passing: bool,
 }
 
 /// Each thing that advance can have due, while a current frame waits: with
 /// nothing committed yet, with a committed generation, and with a pending one
-/// too. Then a committed directory of several blocks, without more.
-pub const STATES: [State; 18] = [
+/// too. Then with pages that M passes over, and a committed directory of
+/// several blocks, without more.
+pub const STATES: [State; 23] = [
     state(None, false),
     state(Some(Kind::M), false),
     state(Some(Kind::P), true),
@@ -48,6 +51,11 @@ pub const STATES: [State; 18] = [
     state(Some(Kind::F), true).fresh(),
     state(Some(Kind::H), true).fresh(),
     state(Some(Kind::F), false).owed().fresh(),
+    state(None, false).passing(),
+    state(Some(Kind::M), false).passing(),
+    state(Some(Kind::M), true).passing(),
+    state(Some(Kind::F), true).passing(),
+    state(Some(Kind::H), true).passing(),
     State {
         size: Size::Wide,
         ..state(Some(Kind::M), false)
@@ -61,6 +69,7 @@ const fn state(due: Option<Kind>, pending: bool) -> State {
         due,
         pending,
         owed: false,
+        passing: false,
     }
 }
 
@@ -78,11 +87,31 @@ impl State {
         State { owed: true, ..self }
     }
 
+    /// With pages that M passes over among the entries that are not counted as
+    /// migrated; before H all are.
+    const fn passing(self) -> State {
+        State {
+            passing: true,
+            ..self
+        }
+    }
+
+    fn passes(&self, model: &Model, committed: &Committed) -> bool {
+        let counted = match self.due {
+            Some(Kind::H) => 0,
+            _ => committed.migrated,
+        };
+        let over = model.passed_over();
+        let mut left = committed.entries.iter().skip(counted);
+        left.any(|entry| over.contains(&entry.0))
+    }
+
     fn is(&self, model: &Model) -> bool {
         let Some(store) = &model.store else {
             return false;
         };
-        let entries = store.committed.as_ref().map(|c| c.entries.len());
+        let committed = store.committed.as_ref();
+        let entries = committed.map(|c| c.entries.len());
         let special = match self.size {
             Size::Wide => entries > Some(64) && store.geometry.blocks < 500,
             _ => !store.current.waiting.is_empty(),
@@ -92,6 +121,7 @@ impl State {
             && store.pending.is_some() == self.pending
             && (store.phase == Phase::Owed) == self.owed
             && model.due() == self.due
+            && (!self.passing || committed.is_some_and(|c| self.passes(model, c)))
     }
 }
 

@@ -6,6 +6,7 @@ mod cards;
 mod cuts;
 mod doctored;
 mod drive;
+mod empties;
 mod library;
 mod limits;
 mod list;
@@ -118,14 +119,16 @@ fn print_summary(options: &Options, lists: &Tally, doctored: &Tally, begun: Inst
         lists.looks
     );
     let (limits, cuts) = (lists.limits.table(), lists.cuts.table());
-    print!("{}{limits}{cuts}", lists.table());
+    let empties = lists.empties.lists_table();
+    print!("{}{limits}{cuts}{empties}", lists.table());
     println!(
         "{} doctored records, {} doctored cards, {} calls on them",
         doctored.doctored_records,
         doctored.doctored_cards,
         doctored.calls()
     );
-    print!("{}", doctored.table());
+    let empties = doctored.empties.doctored_table();
+    print!("{}{empties}", doctored.table());
     println!("{:.1} s", begun.elapsed().as_secs_f64());
 }
 

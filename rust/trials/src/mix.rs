@@ -1,6 +1,7 @@
 //! Random lists: valid, refused and absurd calls, cuts and doctored cards.
 
 mod absurd;
+mod empty;
 mod full;
 
 use crate::call::Call;
@@ -90,7 +91,11 @@ pub fn list_of_size(mut rng: Rng, size: Size) -> List {
 /// A few calls and cuts, and a commit, for a card that no list made.
 pub fn some_steps(rng: Rng, geometry: Geometry) -> Vec<Step> {
     let mut mix = Mix::new(rng, geometry, Size::Small);
-    let mut steps = vec![mix.step(), mix.step()];
+    let mut steps = Vec::new();
+    if mix.rng.chance(500) {
+        mix.advances(&mut steps);
+    }
+    steps.extend([mix.step(), mix.step()]);
     mix.commit(&mut steps);
     steps.extend([mix.step(), mix.step(), mix.step()]);
     steps
@@ -118,7 +123,7 @@ impl Mix {
             most_frames: if wide { 64 } else { frames },
             cuts,
             absurd: rng.pick(&[0, 40, 100]),
-            turns: if wide { 3 } else { 60 },
+            turns: if wide { 3 } else { 70 },
             sweeping: wide,
             geometry,
             rng,
@@ -167,13 +172,14 @@ impl Mix {
     }
 
     fn turn(&mut self, steps: &mut Vec<Step>) {
-        match self.rng.below(16) {
+        match self.rng.below(18) {
             0..3 => self.advances(steps),
             3..5 => self.burst(Call::PageOut, 6, steps),
             5 => self.sweep(steps),
             6..10 => self.commit(steps),
             10..14 => self.cut_commit(steps),
-            14 => self.doctored(steps),
+            14..16 => self.empty_pages(steps),
+            16 => self.doctored(steps),
             _ => self.start_or_format(steps),
         }
     }
@@ -186,15 +192,20 @@ impl Mix {
             let oid = range.first + i as u32 % range.pages;
             steps.push(Step::plain(self.write(oid)));
             if i % batch == batch - 1 {
-                steps.extend(std::iter::repeat_n(Step::plain(Call::PageOut), batch + 1));
+                repeat(Call::PageOut, batch + 1, steps);
             }
         }
     }
 
-    /// A call after a write, so that there is something for it.
+    /// A call after a write, so that there is something for it. Some pages are
+    /// emptied at once.
     fn write_and(&mut self, call: Call, steps: &mut Vec<Step>) {
-        let oid = self.oid();
-        steps.extend([self.write(oid), call].map(Step::plain));
+        let (oid, count) = (self.oid(), 0);
+        steps.push(Step::plain(self.write(oid)));
+        if self.rng.chance(200) {
+            steps.push(Step::plain(Call::Rescind { oid, count }));
+        }
+        steps.push(Step::plain(call));
     }
 
     /// A snapshot, and advances that may end anywhere.
@@ -212,8 +223,7 @@ impl Mix {
     }
 
     fn burst(&mut self, call: Call, most: usize, steps: &mut Vec<Step>) {
-        let times = self.rng.between(2, most);
-        steps.extend(std::iter::repeat_n(Step::plain(call), times));
+        repeat(call, self.rng.between(2, most), steps);
     }
 
     fn step(&mut self) -> Step {
@@ -351,14 +361,19 @@ impl Mix {
     /// Counts and commit numbers at their limits, flags with all bits.
     fn doctored(&mut self, steps: &mut Vec<Step>) {
         let near = u32::MAX - self.rng.below(3) as u32;
-        if self.rng.chance(500) {
-            steps.push(Step::DoctorPot {
+        match self.rng.below(5) {
+            0..2 => steps.push(Step::DoctorPot {
                 oid: self.oid(),
                 count: self.rng.pick(&[0, 255, 65_535, near, near]),
                 flags: self.rng.next() as u8,
-            });
-            return;
+            }),
+            2 => self.emptied_at_home(steps),
+            _ => self.last_commits(near, steps),
         }
+    }
+
+    /// Commits up to the last number, or near it.
+    fn last_commits(&mut self, near: u32, steps: &mut Vec<Step>) {
         steps.push(Step::DoctorCommit(near));
         for _ in 0..3 {
             self.commit(steps);
@@ -412,4 +427,8 @@ fn borders(geometry: &Geometry) -> Vec<u32> {
         borders.extend([range.first.wrapping_add(101), range.first.wrapping_add(102)]);
     }
     borders
+}
+
+fn repeat(call: Call, times: usize, steps: &mut Vec<Step>) {
+    steps.extend(std::iter::repeat_n(Step::plain(call), times));
 }

@@ -38,10 +38,7 @@ impl Reference for Model {
                 wrote = Some(block);
                 Answer::Wrote(Kind::P, block)
             }),
-            Call::Advance => self.advance(lent).map(|(kind, block)| {
-                wrote = (kind != Kind::F).then_some(block);
-                Answer::Wrote(kind, block)
-            }),
+            Call::Advance => return advanced(self.advance(lent)),
         };
         Reply {
             answer: answer.unwrap_or_else(Answer::Refused),
@@ -52,6 +49,17 @@ impl Reference for Model {
 
     fn model(&mut self) -> &mut Model {
         self
+    }
+}
+
+/// What an advance replies; F writes no block.
+pub fn advanced(result: Result<(Kind, usize), Refusal>) -> Reply {
+    let written = result.ok().filter(|(kind, _)| *kind != Kind::F);
+    let answer = result.map(|(kind, block)| Answer::Wrote(kind, block));
+    Reply {
+        answer: answer.unwrap_or_else(Answer::Refused),
+        page: None,
+        wrote: written.map(|(_, block)| block),
     }
 }
 

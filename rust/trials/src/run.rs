@@ -3,6 +3,7 @@
 use crate::call::{Answer, Call};
 use crate::cuts;
 use crate::drive::{Down, Left, Unflushed};
+use crate::empties::Home;
 use crate::library::Library;
 use crate::list::{numbers, Lending, List, Restart, Step};
 use crate::reference::Reference;
@@ -159,7 +160,10 @@ impl<L: Library, R: Reference> Trial<'_, L, R> {
     /// What a call that is done means to the drive.
     fn tell_drive(&mut self, call: &Call, made: &Made) {
         match (call, made.answer) {
-            (Call::Format { .. }, _) => self.drive.format(),
+            (Call::Format { .. }, _) => {
+                self.drive.format();
+                self.home = Home::default();
+            }
             (Call::Start, _) => self.drive.start(),
             (Call::Advance, Answer::Wrote(Kind::F, _)) => self.drive.flush(),
             _ => {

@@ -3,6 +3,7 @@
 use crate::call::{Answer, Call, NAMES};
 use crate::cuts::Cuts;
 use crate::doctored::broken::SENTENCES;
+use crate::empties::Empties;
 use crate::limits::Limits;
 use model::Kind;
 use std::collections::BTreeSet;
@@ -36,6 +37,7 @@ pub struct Tally {
     pub lists: u64,
     pub cuts: Cuts,
     pub limits: Limits,
+    pub empties: Empties,
     /// Blocks of the largest card that was started.
     largest: usize,
     /// The lengths of memory that were lent to a start, in frames.
@@ -87,6 +89,7 @@ impl Tally {
         self.lists += other.lists;
         self.cuts.add(&other.cuts);
         self.limits.add(&other.limits);
+        self.empties.add(&other.empties);
         self.looks += other.looks;
         self.doctored_records += other.doctored_records;
         self.doctored_cards += other.doctored_cards;
@@ -109,15 +112,17 @@ impl Tally {
         }
         missing.extend(self.limits.missing());
         missing.extend(self.cuts.missing());
+        missing.extend(self.empties.missing_from_lists());
         missing
     }
 
-    /// Numbers that only doctoring brings about and that did not come, and
-    /// sentences that no record has broken.
+    /// Numbers that only doctoring brings about and that did not come, sentences
+    /// that no record has broken, and empty pages that no card had.
     pub fn missing_from_doctored(&self) -> Vec<String> {
         let mut missing = self.missing(needs_doctoring);
         let whole = SENTENCES.iter().filter(|name| !self.broken.contains(*name));
         missing.extend(whole.map(|name| format!("broken: {name}")));
+        missing.extend(self.empties.missing_from_doctored());
         missing
     }
 

@@ -22,11 +22,18 @@ use model::geometry::BLOCK;
 use model::{Lent, Model};
 
 const LISTS: u64 = 200;
-/// Steps of a list that is short enough to be read: three commits, and more.
-const SHORT: usize = 30;
+const MIDDLE_LISTS: u64 = 40;
+/// Steps of a list that is short enough to be read: three commits and their
+/// migrations, and more.
+const SHORT: usize = 36;
 
 fn lists() -> impl Iterator<Item = List> {
     (0..LISTS).map(|i| mix::list_of_size(Rng::part(7, i), Size::Small))
+}
+
+/// Lists on cards with ranges of several runs.
+fn middle_lists() -> impl Iterator<Item = List> {
+    (0..MIDDLE_LISTS).map(|i| mix::list_of_size(Rng::part(7, i), Size::Middle))
 }
 
 /// A list with generations of 251 entries.
@@ -41,7 +48,7 @@ fn fails<R: Reference>(fault: Fault, reference: R, list: &List) -> bool {
 
 /// Finds a list that fails, makes it short and says its steps.
 fn caught(mut fails: impl FnMut(&List) -> bool) -> Vec<Step> {
-    let mut lists = lists().chain([full_list()]);
+    let mut lists = lists().chain(middle_lists()).chain([full_list()]);
     let list = lists.find(&mut fails).expect("no list fails");
     let short = shrink(list, &mut fails);
     println!("{short}");
@@ -80,10 +87,16 @@ fn caught_when_full(fault: Fault, what: &str) {
     assert_eq!(failure.what, what);
 }
 
+/// These lists come to all that a run must see of empty pages.
 #[test]
 fn library_without_fault_passes() {
-    let model = || Model::new(Vec::new());
-    assert!(lists().all(|list| !fails(Fault::None, model(), &list)));
+    let mut tally = Tally::default();
+    for list in lists().chain(middle_lists()) {
+        let (mut library, model) = (Faulty::new(Fault::None), Model::new(Vec::new()));
+        let result = run(&mut library, model, &list, &mut tally);
+        assert!(result.is_ok(), "{result:?}");
+    }
+    assert_eq!(tally.empties.missing_from_lists(), [""; 0]);
 }
 
 #[test]
@@ -96,6 +109,12 @@ fn pot_updated_at_home() {
 fn write_on_waiting_old_bytes() {
     caught_by_model(Fault::OldBytes);
     caught_by_book(Fault::OldBytes);
+}
+
+#[test]
+fn write_on_what_home_holds() {
+    caught_by_model(Fault::HomeBytes);
+    caught_by_book(Fault::HomeBytes);
 }
 
 #[test]
@@ -160,6 +179,65 @@ fn no_flush_after_a_start() {
 fn page_out_while_a_flush_is_due() {
     caught_by_model(Fault::PageOutWhileOwed);
     caught_by_run(Fault::PageOutWhileOwed, &runs::block_released(false));
+}
+
+/// The book sees it too: what the pending snapshot shows must be home by its H.
+#[test]
+fn empty_pages_by_the_newest_view() {
+    caught_by_model(Fault::EmptyByNewest);
+    caught_by_book(Fault::EmptyByNewest);
+    caught_by_run(Fault::EmptyByNewest, &runs::rescinded_after_the_snapshot());
+}
+
+/// With the snapshot committed the page is empty, so the book sees nothing.
+#[test]
+fn empty_pages_by_the_pending_view() {
+    caught_by_model(Fault::EmptyByPending);
+}
+
+#[test]
+fn pot_passed_over() {
+    caught_by_model(Fault::PotPassedOver);
+    caught_by_book(Fault::PotPassedOver);
+}
+
+#[test]
+fn full_page_passed_over() {
+    caught_by_model(Fault::EmptyByNeighbour);
+    caught_by_book(Fault::EmptyByNeighbour);
+}
+
+#[test]
+fn full_page_passed_over_by_the_first_pot() {
+    caught_by_model(Fault::EmptyByFirstPot);
+    caught_by_book(Fault::EmptyByFirstPot);
+}
+
+#[test]
+fn full_page_passed_over_by_other_flag_bits() {
+    caught_by_model(Fault::EmptyByAnyBit);
+    caught_by_book(Fault::EmptyByAnyBit);
+}
+
+#[test]
+fn nothing_passed_over() {
+    caught_by_model(Fault::NothingPassedOver);
+}
+
+#[test]
+fn refusal_20_too_early() {
+    caught_by_model(Fault::MigrationEndsEarly);
+    caught_by_book(Fault::MigrationEndsEarly);
+}
+
+#[test]
+fn refusal_20_too_late() {
+    caught_by_model(Fault::PassedReported);
+}
+
+#[test]
+fn header_that_waits_for_what_is_passed_over() {
+    caught_by_model(Fault::HeaderWaits);
 }
 
 /// For each row of `LIMITS`, the row of the same limit kept.
@@ -282,8 +360,11 @@ fn what_was_never_seen_is_told() {
     assert!(told("an unflushed H found old"));
     assert!(told("an unflushed H found new after a start"));
     assert!(told("a start over an unflushed T, then a cut"));
+    assert!(told("20 with only pages left that are passed over"));
     let missing = Tally::default().missing_from_doctored();
-    assert!(missing.contains(&"broken: head".to_string()));
+    let told = |what: &str| missing.iter().any(|one| one == what);
+    assert!(told("broken: head"));
+    assert!(told("doctored: page passed over by its pot at home"));
 }
 
 /// A refusal counts for a limit if nothing else is wrong.

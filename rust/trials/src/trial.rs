@@ -3,6 +3,7 @@
 
 use crate::call::{Answer, Buffer, Call};
 use crate::drive::Drive;
+use crate::empties::{amid, Amid, Home};
 use crate::library::{Library, Record, PADDING, RECORD};
 use crate::limits::{told, FULL};
 use crate::list::Lending;
@@ -41,6 +42,7 @@ pub struct Trial<'t, L, R> {
     /// in a cut is among them.
     pub named: BTreeSet<u32>,
     pub drive: Drive,
+    pub home: Home,
 }
 
 /// Record and memory before a call. Of memory all that is lent is kept, and a
@@ -95,6 +97,7 @@ impl<'t, L: Library, R: Reference> Trial<'t, L, R> {
             made: 0,
             named: BTreeSet::new(),
             drive: Drive::default(),
+            home: Home::default(),
         }
     }
 
@@ -128,6 +131,10 @@ impl<'t, L: Library, R: Reference> Trial<'t, L, R> {
         self.made += 1;
         self.named.extend(call.oid());
         self.note(lent);
+        let amid = match call {
+            Call::Start => amid(self.reference.model()),
+            _ => None,
+        };
         let exchange = self.exchange(call, lent);
         self.tally.count(call, &exchange.answer)?;
         exchange.compare()?;
@@ -135,6 +142,7 @@ impl<'t, L: Library, R: Reference> Trial<'t, L, R> {
         self.compare_record(call, &exchange.answer)?;
         self.compare_memory(call, &exchange.answer, lent)?;
         self.note_sizes(call, &exchange.answer, lent);
+        self.note_empties(call, &exchange.answer, amid);
         let whole =
             matches!(call, Call::Format { .. } | Call::Start) || self.made.is_multiple_of(32);
         if whole || self.geometry.blocks <= COMPARED_WHOLE {
@@ -166,6 +174,15 @@ impl<'t, L: Library, R: Reference> Trial<'t, L, R> {
             .and_then(|store| store.pending.as_ref());
         if let (Call::Snapshot, Some(pending)) = (call, pending) {
             self.tally.fullest = self.tally.fullest.max(pending.changes.e());
+        }
+    }
+
+    /// `amid` is the migration that a start has found.
+    fn note_empties(&mut self, call: &Call, answer: &Answer, amid: Option<Amid>) {
+        let empties = &mut self.tally.empties;
+        empties.count_made(call, answer, self.reference.model(), &mut self.home);
+        if let Some(amid) = amid.filter(|_| answer.is_done()) {
+            empties.count_start(amid);
         }
     }
 
@@ -300,6 +317,10 @@ impl<'t, L: Library, R: Reference> Trial<'t, L, R> {
         self.look_at_all()?;
         if self.book.is_some() && self.has_full_directory() {
             self.tally.limits.count_found();
+        }
+        for oid in self.oids() {
+            let model = self.reference.model();
+            self.tally.empties.count_found(oid, model, &self.home);
         }
         Ok(())
     }

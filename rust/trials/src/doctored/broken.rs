@@ -8,7 +8,7 @@ use super::form::{
 use crate::library::Record;
 use crate::rng::Rng;
 use model::generation::{directory_blocks, size, Changes, Committed, Pending};
-use model::Store;
+use model::{Phase, Store};
 
 /// What a run must have broken, in one state or another.
 pub const SENTENCES: [&str; 31] = [
@@ -123,22 +123,36 @@ impl Breaker<'_> {
         let all_down = pending.is_some_and(|p| p.trailer_down) && all_home;
         let begun = committed.is_some_and(|c| c.migrated > 0)
             || pending.is_some_and(|p| p.directory_down > 0 || p.trailer_down);
-        self.hold_phase(WRITING);
+        self.hold(PHASE, WRITING);
         if all_down {
-            self.hold_phase(FLUSHED);
+            self.hold(PHASE, FLUSHED);
         } else {
             self.set("flushed, before all is down", PHASE, FLUSHED);
         }
         if begun {
             self.set("owed, with work done", PHASE, OWED);
         } else {
-            self.hold_phase(OWED);
+            self.hold(PHASE, OWED);
         }
     }
 
-    fn hold_phase(&mut self, phase: usize) {
+    /// How many entries are home or passed over goes with the phase: all before
+    /// H, none while a flush is owed, and else any.
+    fn migrated(&mut self, e: usize) {
+        for other in (0..=e).filter(|other| *other != size_at(self.good, MIGRATED)) {
+            match self.store.phase {
+                Phase::Writing => self.hold(MIGRATED, other),
+                Phase::Flushed => self.set("flushed, before all is down", MIGRATED, other),
+                Phase::Owed => self.set("owed, with work done", MIGRATED, other),
+            }
+        }
+        self.set("the number migrated", MIGRATED, e + 1);
+    }
+
+    /// One number made another that holds too.
+    fn hold(&mut self, at: usize, to: usize) {
         let mut record = *self.good;
-        put_size(&mut record, PHASE, phase);
+        put_size(&mut record, at, to);
         self.made.held.push(record);
     }
 
@@ -202,7 +216,7 @@ impl Breaker<'_> {
         for other in [0, p + 1] {
             self.set("e of the committed", COMMITTED.count, other);
         }
-        self.set("the number migrated", MIGRATED, e + 1);
+        self.migrated(e);
         for other in [0, e - 1, geometry.half()] {
             self.set("p of the committed", PAGES, other);
         }

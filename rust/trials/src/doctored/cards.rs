@@ -11,9 +11,12 @@ use crate::rng::Rng;
 use crate::stock::{difference, CARD_SLACK, MEMORY};
 use crate::tally::Tally;
 use crate::trial::Trial;
-use model::blocks::{number, put_number, TRAILER_AT};
+use model::blocks::{directory, number, put, put_number, ENTRIES, TRAILER_AT};
 use model::geometry::BLOCK;
 use model::{Geometry, Lent, Model};
+
+/// Of each card so many directories are made others.
+const DIRECTORIES: usize = 200;
 
 /// A card in a state, and the blocks that start reads.
 struct Good {
@@ -48,6 +51,7 @@ pub fn doctor<L: Library>(
         let card = doctor.other_numbers(&good);
         doctor.try_like(card, &good)?;
     }
+    doctor.other_directories(&good)?;
     Ok(doctor.random_cards()?)
 }
 
@@ -58,8 +62,7 @@ impl Good {
         let trailer = Some(number(&card, 8) as usize).filter(|block| *block > 0);
         let mut directory = Vec::new();
         if let Some(block) = trailer {
-            let at = block * BLOCK + TRAILER_AT;
-            let [first, p, e] = [4, 8, 12].map(|field| number(&card, at + field) as usize);
+            let Generation { first, p, e } = Generation::of(&card, block);
             directory.extend((0..e.div_ceil(64)).map(|i| geometry.ring(first, p + i)));
         }
         Good {
@@ -81,10 +84,25 @@ impl Good {
     }
 }
 
+/// A committed generation as its trailer tells it.
+struct Generation {
+    first: usize,
+    p: usize,
+    e: usize,
+}
+
 struct Doctor<'t, L> {
     library: &'t mut L,
     tally: &'t mut Tally,
     rng: Rng,
+}
+
+impl Generation {
+    fn of(card: &[u8], trailer: usize) -> Generation {
+        let at = trailer * BLOCK + TRAILER_AT;
+        let [first, p, e] = [4, 8, 12].map(|field| number(card, at + field) as usize);
+        Generation { first, p, e }
+    }
 }
 
 impl<L: Library> Doctor<'_, L> {
@@ -150,6 +168,42 @@ impl<L: Library> Doctor<'_, L> {
             let borders = [0, 1, 8, 9, area, area + 1, blocks - 1, blocks, u32::MAX];
             let choices = [rng.pick(&one_off), rng.pick(&borders), other];
             put_number(&mut card, at, rng.pick(&choices));
+        }
+        card
+    }
+
+    /// Directories of any frames, with any bytes in pots and page blocks. A page
+    /// may stand there without its pot, which then tells at home whether it is
+    /// passed over.
+    fn other_directories(&mut self, good: &Good) -> Result<(), String> {
+        let Some(trailer) = good.trailer else {
+            return Ok(());
+        };
+        for _ in 0..DIRECTORIES {
+            let card = self.other_directory(good, Generation::of(&good.card, trailer));
+            self.try_like(card, good)?;
+        }
+        Ok(())
+    }
+
+    fn other_directory(&mut self, good: &Good, generation: Generation) -> Vec<u8> {
+        let Generation { first, p, e } = generation;
+        let (geometry, rng) = (&good.geometry, &mut self.rng);
+        let mut card = good.card.clone();
+        let page_blocks: Vec<usize> = (0..p).map(|i| geometry.ring(first, i)).collect();
+        for block in geometry.pots().iter().chain(&page_blocks) {
+            rng.fill(&mut card[block * BLOCK..(block + 1) * BLOCK]);
+        }
+        let mut frames: Vec<usize> = (1 + geometry.area..geometry.blocks).collect();
+        rng.shuffle(&mut frames);
+        frames.truncate(e);
+        frames.sort_unstable();
+        let entries: Vec<(usize, usize)> = frames
+            .into_iter()
+            .map(|frame| (frame, rng.pick(&page_blocks)))
+            .collect();
+        for (block, part) in good.directory.iter().zip(entries.chunks(ENTRIES)) {
+            put(&mut card, *block, &directory(part));
         }
         card
     }

@@ -2,6 +2,7 @@
 //! changed nothing.
 
 use super::broken::{doctored, Doctored};
+use super::form::{is_known, put_size, MIGRATED};
 use super::{calls_on, in_state, Failed, State};
 use crate::call::{Answer, Call};
 use crate::library::{Library, Record, RECORD};
@@ -12,7 +13,7 @@ use crate::tally::Tally;
 use crate::trial::Trial;
 use model::blocks::{get, put};
 use model::geometry::BLOCK;
-use model::{Kind, Lent, Model};
+use model::{Kind, Lent, Model, Phase, Store};
 
 /// Doctors the record of a store in that state.
 pub fn doctor<L: Library>(
@@ -29,6 +30,7 @@ pub fn doctor<L: Library>(
         let store = trial.reference.store.clone();
         let mut good = trial.stock.clone();
         good.memory.truncate(lent.memory + BLOCK);
+        migrate_from_any(trial)?;
         let later = later_record(trial)?;
         found = store.map(|store| (store, good, later, lent, calls_on(oid, count)));
         Ok(())
@@ -49,6 +51,48 @@ pub fn doctor<L: Library>(
     doctor.sentences(&made)?;
     // A record of zeros has memory length 0.
     Ok(doctor.try_refused(1, &Record::ZEROS, "zeros")?)
+}
+
+/// Records that count any number of entries as migrated, with a model that does
+/// so too: the next advances are alike, and leave a record that tells the same.
+/// While a flush is owed and before H there is only one such number.
+fn migrate_from_any<L: Library>(trial: &mut Trial<'_, L, Model>) -> Result<(), String> {
+    let (stock, model) = (trial.stock.clone(), trial.reference.clone());
+    let Some((e, now, phase)) = model.store.as_ref().and_then(migration) else {
+        return Ok(());
+    };
+    let any = phase == Phase::Writing;
+    for migrated in (0..=e).filter(|number| any || *number == now) {
+        let tried = migrate_from(migrated, trial);
+        tried.map_err(|what| format!("from {migrated} migrated: {what}"))?;
+        (trial.stock, trial.reference) = (stock.clone(), model.clone());
+    }
+    Ok(())
+}
+
+/// The committed entries, how many are home or passed over, and the phase.
+fn migration(store: &Store) -> Option<(usize, usize, Phase)> {
+    let committed = store.committed.as_ref()?;
+    Some((committed.entries.len(), committed.migrated, store.phase))
+}
+
+fn migrate_from<L: Library>(
+    migrated: usize,
+    trial: &mut Trial<'_, L, Model>,
+) -> Result<(), String> {
+    put_size(&mut trial.stock.record, MIGRATED, migrated);
+    let store = trial.reference.store.as_mut();
+    if let Some(committed) = store.and_then(|store| store.committed.as_mut()) {
+        committed.migrated = migrated;
+    }
+    for _ in 0..3 {
+        trial.make(&Call::Advance, Lending::default())?;
+        let store = trial.reference.store.as_ref();
+        if !store.is_some_and(|store| is_known(&trial.stock.record, store)) {
+            return Err("advance leaves a record that tells another state".into());
+        }
+    }
+    Ok(())
 }
 
 /// A later record of the same store, to splice the good one with.

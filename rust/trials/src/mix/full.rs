@@ -1,6 +1,6 @@
 //! Generations that take all of the largest H, 256: p 251 and e 251.
 
-use super::Mix;
+use super::{repeat, Mix};
 use crate::call::Call;
 use crate::cards::FULL_RUN;
 use crate::limits::FULL;
@@ -107,8 +107,4 @@ impl Mix {
         runs.truncate(4);
         runs
     }
-}
-
-fn repeat(call: Call, times: usize, steps: &mut Vec<Step>) {
-    steps.extend(std::iter::repeat_n(Step::plain(call), times));
 }

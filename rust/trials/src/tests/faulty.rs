@@ -1,12 +1,14 @@
 //! The model as a library, with one fault: of document 01's list, of document
-//! 02's flushes, or at a limit.
+//! 02's flushes or empty pages, or at a limit.
 
 mod limits;
+mod passing;
 
 use crate::call::{Answer, Call};
+use crate::empties::flag;
 use crate::library::{Library, Loan, RECORD};
-use crate::reference::{Reference, Reply};
-use model::blocks::{put, Block};
+use crate::reference::{advanced, Reference, Reply};
+use model::blocks::{get, put, Block};
 use model::geometry::Place;
 use model::{Kind, Lent, Model, Phase, Store};
 use std::collections::VecDeque;
@@ -18,6 +20,8 @@ pub enum Fault {
     PotAtHome,
     /// After a rescind, a write lands on the waiting old bytes.
     OldBytes,
+    /// A write to an empty page lands on what its home holds.
+    HomeBytes,
     /// A write after a snapshot alters the frame still waiting for it.
     SnapshotAltered,
     /// The committed pages' blocks are free once migration has started.
@@ -36,6 +40,25 @@ pub enum Fault {
     NoFlushAfterStart,
     /// Page-out is let through while the flush after H or a start is due.
     PageOutWhileOwed,
+    /// M goes by the newest view of a pot.
+    EmptyByNewest,
+    /// M goes by the pending generation's view of a pot.
+    EmptyByPending,
+    /// M goes by the flag of the page's neighbour, and passes over full pages.
+    EmptyByNeighbour,
+    /// M goes by the first pot of the range.
+    EmptyByFirstPot,
+    /// M heeds the other flag bits too.
+    EmptyByAnyBit,
+    /// M passes over a pot by its first flag.
+    PotPassedOver,
+    NothingPassedOver,
+    /// M ends at the first page that is passed over: 20 and H come too early.
+    MigrationEndsEarly,
+    /// H does not come while only pages are left that are passed over.
+    HeaderWaits,
+    /// 20 does not come while only pages are left that are passed over.
+    PassedReported,
     /// Format or start answers question 5 wrongly at this limit.
     Limit {
         row: usize,
@@ -70,14 +93,16 @@ impl Faulty {
         store.geometry.place(call.oid()?)
     }
 
-    /// The waiting bytes of a page whose flag is set.
+    /// The waiting bytes of a page whose flag is set, or those at home.
     fn old_bytes(&self, call: &Call) -> Option<Block> {
         let place = self.place(call)?;
         let store = self.model.store.as_ref()?;
         let pot = store.newest(&self.model.card, place.pot);
-        let rescinded = pot[place.at + 4] & 1 == 1;
-        let waiting = store.current.waiting_bytes(place.page).copied();
-        waiting.filter(|_| rescinded)
+        let old = match self.fault {
+            Fault::HomeBytes => Some(get(&self.model.card, place.page)),
+            _ => store.current.waiting_bytes(place.page).copied(),
+        };
+        old.filter(|_| flag(&pot, &place))
     }
 
     fn put_pot_home(&mut self, call: &Call) -> Option<()> {
@@ -133,12 +158,13 @@ impl Faulty {
         reply
     }
 
-    fn skip_trailer(&mut self) -> Option<()> {
-        if self.model.due() == Some(Kind::T) {
-            let store = self.model.store.as_mut()?;
-            store.pending.as_mut()?.trailer_down = true;
+    fn advance_without_trailer(&mut self, lent: Lent) -> Reply {
+        let trailer_due = self.model.due() == Some(Kind::T);
+        let store = self.model.store.as_mut();
+        if let Some(pending) = store.and_then(|store| store.pending.as_mut()) {
+            pending.trailer_down |= trailer_due;
         }
-        Some(())
+        self.model.make(&Call::Advance, lent, &[])
     }
 
     fn advance_at_once(&mut self, lent: Lent) -> Reply {
@@ -147,11 +173,7 @@ impl Faulty {
         }
         match self.unreported.pop_front() {
             None => self.model.make(&Call::Advance, lent, &[]),
-            Some((kind, block)) => Reply {
-                answer: Answer::Wrote(kind, block),
-                page: None,
-                wrote: (kind != Kind::F).then_some(block),
-            },
+            Some(wrote) => advanced(Ok(wrote)),
         }
     }
 
@@ -165,6 +187,19 @@ impl Faulty {
             reply.answer = Answer::Refused(12);
         }
         reply
+    }
+
+    /// An advance with the fault in it.
+    fn advance(&mut self, lent: Lent) -> Reply {
+        match self.fault {
+            Fault::AllAtOnce => self.advance_at_once(lent),
+            Fault::NoFlushBeforeHeader => self.advance_to_header(lent),
+            Fault::NoFlushAfterHeader => self.owe_nothing(&Call::Advance, lent),
+            Fault::NoTrailer => self.advance_without_trailer(lent),
+            Fault::HeaderWaits => self.advance_and_wait(lent),
+            Fault::PassedReported => self.advance_and_report(lent),
+            _ => self.advance_past_others(lent),
+        }
     }
 
     fn phase(&self) -> Option<Phase> {
@@ -224,7 +259,7 @@ impl Faulty {
             match (self.fault, old) {
                 (Fault::PotAtHome, _) => self.put_pot_home(call),
                 (Fault::SnapshotAltered, _) => self.alter_snapshot(call),
-                (Fault::OldBytes, Some(old)) => self.put_on(call, old, bytes),
+                (Fault::OldBytes | Fault::HomeBytes, Some(old)) => self.put_on(call, old, bytes),
                 _ => None,
             };
         }
@@ -235,22 +270,15 @@ impl Faulty {
 impl Reference for Faulty {
     fn make(&mut self, call: &Call, lent: Lent, bytes: &[u8]) -> Reply {
         match (self.fault, call) {
+            (_, Call::Advance) => self.advance(lent),
             (Fault::CommitZero, Call::Start) => self.start_at_commit_0(lent),
-            (Fault::AllAtOnce, Call::Advance) => self.advance_at_once(lent),
-            (Fault::NoFlushBeforeHeader, Call::Advance) => self.advance_to_header(lent),
-            (Fault::NoFlushAfterHeader, Call::Advance) => self.owe_nothing(call, lent),
             (Fault::NoFlushAfterStart, Call::Start) => self.owe_nothing(call, lent),
             (Fault::PageOutWhileOwed, Call::PageOut) => self.page_out_while_owed(lent),
             (Fault::Limit { row, start: false }, Call::Format { .. })
             | (Fault::Limit { row, start: true }, Call::Start) => self.pass_limit(row, call, lent),
             (Fault::EntryLost, Call::Start) => self.lose_entry(lent),
             (_, Call::Write { .. }) => self.change(call, lent, bytes),
-            _ => {
-                if self.fault == Fault::NoTrailer && *call == Call::Advance {
-                    self.skip_trailer();
-                }
-                self.model.make(call, lent, bytes)
-            }
+            _ => self.model.make(call, lent, bytes),
         }
     }
 

@@ -1,21 +1,22 @@
-//! Runs on *lanetrace*'s card: A 8, page 100 at block 10, its pot at 9.
+//! Runs that few random lists come to.
 
 use crate::call::Call;
 use crate::drive::{Down, Left};
 use crate::list::{List, Restart, Step};
-use model::Geometry;
+use model::{Geometry, Range};
 
-/// These calls, then a cut that puts down this block alone.
-fn list(calls: Vec<Call>, down: usize) -> List {
+/// These calls on a card with one range from OID 100 on, then a cut.
+fn list(area: usize, pages: u32, calls: Vec<Call>, down: Down) -> List {
     let mut steps: Vec<Step> = calls.into_iter().map(Step::plain).collect();
     steps.push(Step::Cut {
         call: None,
-        down: Down::Blocks(vec![down]),
+        down,
         left: Left::New,
         restart: Restart::plain(4),
     });
+    let blocks = 1 + area + Range { first: 100, pages }.blocks();
     List {
-        geometry: Geometry::new(11, 8, &[100, 1]).expect("the range fills the card"),
+        geometry: Geometry::new(blocks, area, &[100, pages]).expect("the range fills the card"),
         frames: 4,
         filler: 0,
         steps,
@@ -24,8 +25,12 @@ fn list(calls: Vec<Call>, down: usize) -> List {
 
 /// A write to page 100, with bytes from that seed.
 fn write(fill: u64) -> Call {
+    write_to(100, fill)
+}
+
+fn write_to(oid: u32, fill: u64) -> Call {
     Call::Write {
-        oid: 100,
+        oid,
         count: 0,
         at: 0,
         length: 1,
@@ -39,8 +44,8 @@ fn commit(fill: u64, advances: usize) -> Vec<Call> {
     calls
 }
 
-/// Two commits up to the second H, which frees blocks 1 to 4; then page-outs
-/// to 8 and 1, or 28. The cut finds H old and, if it was let through, the page
+/// On *lanetrace*'s card, page 100 at block 10 and its pot at 9, two commits up
+/// to the second H, which frees blocks 1 to 4; then page-outs to 8 and 1, or 28. The cut finds H old and, if it was let through, the page
 /// of the first commit overwritten.
 pub fn block_released(start: bool) -> List {
     let mut calls = vec![Call::Advance];
@@ -52,5 +57,18 @@ pub fn block_released(start: bool) -> List {
         calls.push(Call::Start);
     }
     calls.extend([write(9), Call::PageOut, write(10), Call::PageOut]);
-    list(calls, 1)
+    list(8, 1, calls, Down::Blocks(vec![1]))
+}
+
+/// Page 100 is in the first generation alone, and is rescinded after the second
+/// snapshot. Left out of M, it is not home when the second H frees its block.
+pub fn rescinded_after_the_snapshot() -> List {
+    let mut calls = vec![Call::Advance, write(7), Call::Snapshot, write_to(101, 8)];
+    // P 1, P 2, D 3, T 4, F, H.
+    calls.extend([const { Call::Advance }; 6]);
+    let (oid, count) = (100, 0);
+    calls.extend([Call::Snapshot, Call::Rescind { oid, count }]);
+    // F, P 5, P 6, D 7, T 8, M 13, M 14, F, H, F.
+    calls.extend([const { Call::Advance }; 10]);
+    list(12, 2, calls, Down::All)
 }
