@@ -33,7 +33,7 @@ pub struct State {
 /// nothing committed yet, with a committed generation, and with a pending one
 /// too. Then with pages that M passes over, and a committed directory of
 /// several blocks, without more.
-pub const STATES: [State; 23] = [
+pub const STATES: [State; 25] = [
     state(None, false),
     state(Some(Kind::M), false),
     state(Some(Kind::P), true),
@@ -53,9 +53,11 @@ pub const STATES: [State; 23] = [
     state(Some(Kind::F), false).owed().fresh(),
     state(None, false).passing(),
     state(Some(Kind::M), false).passing(),
+    state(Some(Kind::P), true).passing(),
     state(Some(Kind::M), true).passing(),
     state(Some(Kind::F), true).passing(),
     state(Some(Kind::H), true).passing(),
+    state(Some(Kind::F), true).owed().passing(),
     State {
         size: Size::Wide,
         ..state(Some(Kind::M), false)

@@ -77,7 +77,7 @@ pub struct Home {
 }
 
 /// How a start finds a migration that it ends.
-#[derive(Clone, Copy, Default)]
+#[derive(Clone, Copy)]
 pub struct Amid {
     /// Were pages passed over?
     passed: bool,

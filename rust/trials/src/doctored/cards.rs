@@ -188,24 +188,34 @@ impl<L: Library> Doctor<'_, L> {
 
     fn other_directory(&mut self, good: &Good, generation: Generation) -> Vec<u8> {
         let Generation { first, p, e } = generation;
-        let (geometry, rng) = (&good.geometry, &mut self.rng);
-        let mut card = good.card.clone();
+        let geometry = &good.geometry;
         let page_blocks: Vec<usize> = (0..p).map(|i| geometry.ring(first, i)).collect();
-        for block in geometry.pots().iter().chain(&page_blocks) {
-            rng.fill(&mut card[block * BLOCK..(block + 1) * BLOCK]);
-        }
-        let mut frames: Vec<usize> = (1 + geometry.area..geometry.blocks).collect();
-        rng.shuffle(&mut frames);
-        frames.truncate(e);
-        frames.sort_unstable();
+        let mut card = good.card.clone();
+        self.fill_blocks(&mut card, &geometry.pots());
+        self.fill_blocks(&mut card, &page_blocks);
+        let frames = self.any_frames(geometry, e).into_iter();
         let entries: Vec<(usize, usize)> = frames
-            .into_iter()
-            .map(|frame| (frame, rng.pick(&page_blocks)))
+            .map(|frame| (frame, self.rng.pick(&page_blocks)))
             .collect();
         for (block, part) in good.directory.iter().zip(entries.chunks(ENTRIES)) {
             put(&mut card, *block, &directory(part));
         }
         card
+    }
+
+    fn fill_blocks(&mut self, card: &mut [u8], blocks: &[usize]) {
+        for block in blocks {
+            self.rng.fill(&mut card[block * BLOCK..(block + 1) * BLOCK]);
+        }
+    }
+
+    /// So many home frames, rising.
+    fn any_frames(&mut self, geometry: &Geometry, count: usize) -> Vec<usize> {
+        let mut frames: Vec<usize> = (1 + geometry.area..geometry.blocks).collect();
+        self.rng.shuffle(&mut frames);
+        frames.truncate(count);
+        frames.sort_unstable();
+        frames
     }
 
     /// Any bytes, but for a layout, A and ranges that may be right.

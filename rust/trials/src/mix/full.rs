@@ -44,8 +44,8 @@ impl Mix {
     }
 
     /// A full generation up to its snapshot, and how many advances then commit
-    /// it. So many entries are committed before, and migrate at once or in its
-    /// commit.
+    /// it at most. So many entries are committed before, and those that are not
+    /// passed over migrate at once or in its commit.
     fn full_generation(&mut self, committed: usize, steps: &mut Vec<Step>) -> usize {
         let memory = Some(FRAMES * BLOCK);
         steps.push(Step::Call {

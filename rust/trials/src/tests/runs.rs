@@ -45,8 +45,9 @@ fn commit(fill: u64, advances: usize) -> Vec<Call> {
 }
 
 /// On *lanetrace*'s card, page 100 at block 10 and its pot at 9, two commits up
-/// to the second H, which frees blocks 1 to 4; then page-outs to 8 and 1, or 28. The cut finds H old and, if it was let through, the page
-/// of the first commit overwritten.
+/// to the second H, which frees blocks 1 to 4; then page-outs to 8 and 1, or 28.
+/// The cut finds H old and, if it was let through, the page of the first commit
+/// overwritten.
 pub fn block_released(start: bool) -> List {
     let mut calls = vec![Call::Advance];
     // P 1, P 2, D 3, T 4, F, H, F, M 9, M 10.
@@ -65,10 +66,10 @@ pub fn block_released(start: bool) -> List {
 pub fn rescinded_after_the_snapshot() -> List {
     let mut calls = vec![Call::Advance, write(7), Call::Snapshot, write_to(101, 8)];
     // P 1, P 2, D 3, T 4, F, H.
-    calls.extend([const { Call::Advance }; 6]);
+    calls.extend(std::iter::repeat_n(Call::Advance, 6));
     let (oid, count) = (100, 0);
     calls.extend([Call::Snapshot, Call::Rescind { oid, count }]);
     // F, P 5, P 6, D 7, T 8, M 13, M 14, F, H, F.
-    calls.extend([const { Call::Advance }; 10]);
+    calls.extend(std::iter::repeat_n(Call::Advance, 10));
     list(12, 2, calls, Down::All)
 }
