@@ -1,9 +1,11 @@
 // What document 01's lane tables leave to a program, cards of two ranges, a refusal of each number with the call that
-// gave it, and what each limit lets through: a line each.
+// gave it, what each limit lets through, and document 02's case of an empty page: a line each.
+mod empty;
 mod item;
 mod refusal;
 mod whole_run;
 
+use frames::answer::Advance;
 use libc::STDOUT_FILENO;
 
 fn print(n: u32) {
@@ -26,6 +28,40 @@ fn pair(name: &[u8], a: u32, b: u32) {
     print(a);
     print(b);
     end();
+}
+
+fn written(kind: &[u8], block: usize) {
+    io::write_all(STDOUT_FILENO, kind);
+    io::print_decimal(STDOUT_FILENO, block as u64);
+    end();
+}
+
+fn report(a: Advance) {
+    match a {
+        Advance::P(n) => written(b"empty page P ", n),
+        Advance::D(n) => written(b"empty page D ", n),
+        Advance::T(n) => written(b"empty page T ", n),
+        Advance::M(n) => written(b"empty page M ", n),
+        Advance::H(n) => written(b"empty page H ", n),
+        Advance::F(n) => written(b"empty page F ", n),
+        Advance::Refused(n) => line(b"empty page advance", n),
+    }
+}
+
+// First write, rescind, snapshot, and advances until 20; home, and what is read after the next commit and a start.
+fn empty_page() {
+    report(empty::next(0));
+    report(empty::next(1));
+    report(empty::next(2));
+    report(empty::next(3));
+    report(empty::next(4));
+    report(empty::next(5));
+    report(empty::next(6));
+    report(empty::next(7));
+    report(empty::next(8));
+    report(empty::next(9));
+    line(b"empty page at home", empty::home());
+    line(b"empty page read", empty::restarted());
 }
 
 // Numbers 1 to 8: what is lent, and the card.
@@ -125,4 +161,5 @@ fn main() {
     refused_by_page();
     refused_by_state();
     limits();
+    empty_page();
 }

@@ -16,7 +16,7 @@ pub fn write_and_mark(s: Store, card: &[u8], memory: &mut [u8]) -> Store {
 }
 
 // So many advances.
-fn advances(s: Store, card: &mut [u8], memory: &[u8], count: u32) -> Store {
+pub fn advances(s: Store, card: &mut [u8], memory: &[u8], count: u32) -> Store {
     let mut t = s;
     let mut left = count;
     while left > 0 {

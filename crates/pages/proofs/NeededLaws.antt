@@ -1,4 +1,5 @@
--- Request 104: what is needed is told by the pots, which are always needed; and a write or a rescind hands down every frame that it makes needed.
+-- What is needed is told by the pots, which are always needed; and a write or a rescind hands down every frame that it
+-- makes needed.
 -- Assumes nothing.
 use Prim.Native.Nat.{ℕ, suc, _+_, _-_, _*_, _/_, _%_, _≤_, _<_}
 use borrow.Author.Tests.{ltb-true, ltb-false, lt-ltb, le-ltb, eqb-true, eqb-false, eq-eqb, ne-eqb}
@@ -145,6 +146,12 @@ module _ (rs : List Range) (area blocks : ℕ) (full : blocks ≡ 1 + area + all
   pub page-needed : (v : Contents) (f : ℕ) (p : Address) → pageAt rs (1 + area) f ≡ Located p → needed rs area v f ≡ not (flagged v p)
   unfolding needed
   page-needed v f p e = rw e
+
+  -- so of every OID: its page is needed unless its flag is set, its pot always
+  pub oid-needed : (v : Contents) (oid : ℕ) (p : Address) → locate rs (1 + area) oid ≡ Located p → (needed rs area v (p .page) ≡ not (flagged v p)) × (needed rs area v (p .pot) ≡ true)
+  oid-needed v oid p e =
+      let at-p = page-at rs (1 + area) oid p e in
+      (page-needed v (p .page) p at-p, pot-needed v (p .pot) (at-tells rs (1 + area) (p .page) p at-p .pot-is))
 
   -- THE LAW: contents that agree where the second ones are needed agree on what is needed
   pub needed-same : (u v : Contents) → ((f : ℕ) → area < f → f < blocks → needed rs area v f ≡ true → u f ≡ v f) → (f : ℕ) → needed rs area u f ≡ needed rs area v f

@@ -1,4 +1,4 @@
--- Request 104: which frames the layer above needs. A page whose flag is set is not; a pot always is.
+-- Which frames the layer above needs (document 02, #104). A page whose flag is set is not; a pot always is.
 -- Assumes nothing.
 use Prim.Native.Nat.{ℕ, _+_, _-_, _*_, _/_, _%_}
 use lib.Dec.{ltb, eqb}

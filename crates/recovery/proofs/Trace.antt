@@ -2,6 +2,8 @@
 -- it: area 8, one range of 1 page (home block 10, its pot 9), 11 blocks, memory of 4 frames.
 -- Assumes nothing.
 use Prim.Native.Nat.{ℕ, zero, suc}
+use lib.Dec.{eqb}
+use mathlib.Core.Bool.{Bool}
 use mathlib.Core.List.{List, [], _∷_}
 use mathlib.Core.Option.{Option, none, some}
 use mathlib.Core.Path.{_≡_, refl}
@@ -10,7 +12,8 @@ use Rattle.card.specs.Ring.{ringAt, generationSize}
 use Rattle.recovery.specs.Directory.{noteChange, insertByFrame, byFrame, downEntries, dirOf, turnOf}
 use Rattle.recovery.specs.Questions.{snapshotAsks, pageOutAsks}
 use Rattle.recovery.specs.State.{places, State, size, directoryOf, empty, owed}
-use Rattle.recovery.specs.Step.{queued, changeFrame, changeFrames, afterChange, afterSnapshot, Kind, page, directory, trailer, migration, header, flush, oldestBytes, outOf, trailerBlockNo, nextMigration, kindWrite, afterKind, migrationDue, advanceDue, pageOutWrite, afterPageOut}
+use Rattle.recovery.specs.Step.{queued, changeFrame, changeFrames, afterChange, afterSnapshot, Kind, page, directory, trailer, migration, header, flush, oldestBytes, outOf, trailerBlockNo, nextMigration, kindWrite, afterKind, migrationDue, advanceDue, pageOutWrite, afterPageOut, passTo, migrating}
+use Rattle.recovery.specs.Sums.{leading, passedTo}
 
 record Line : Type 0 where
   kind : Kind
@@ -145,3 +148,44 @@ unfolding third second down trace traced line wrote began advanceDue migrationDu
     changeFrames changeFrame queued turnOf noteChange afterSnapshot outOf places size generationSize empty directoryOf
     dirOf downEntries byFrame insertByFrame nextMigration trailerBlockNo ringAt
 third-run = refl
+
+-- ---- empty pages stay out of home (#104)
+
+-- the advances that are done where frames that `over` tells are passed over
+tracePast : (ℕ → Bool) → ℕ → State → List Line
+tracePast over zero s = []
+tracePast over (suc n) s = traced (tracePast over n) (advanceDue (passTo (passedTo over s) s)) (passTo (passedTo over s) s)
+
+isPage : ℕ → Bool
+isPage f = eqb f 10
+
+-- first write, rescind, snapshot: M for the pot only
+rescinded : State
+unfolding began
+rescinded =
+    afterSnapshot (afterChange (record { frame = 9; bytes = [] } ∷ [])
+    (afterChange (record { frame = 10; bytes = [] } ∷ record { frame = 9; bytes = [] } ∷ []) began))
+
+pot-only : tracePast isPage 12 rescinded
+    ≡ line flush 0 ∷ line page 1 ∷ line page 2 ∷ line directory 3 ∷ line trailer 4 ∷ line flush 0 ∷ line header 0
+    ∷ line flush 0 ∷ line migration 9 ∷ []
+unfolding tracePast isPage rescinded traced line began advanceDue migrationDue migrating leading passedTo kindWrite afterKind afterChange
+    changeFrames changeFrame queued turnOf noteChange afterSnapshot outOf places size generationSize empty directoryOf
+    dirOf downEntries byFrame insertByFrame nextMigration trailerBlockNo ringAt
+pot-only = refl
+
+-- the next snapshot does not wait for what is passed over
+rescinded-home : State
+unfolding rescinded
+rescinded-home =
+    afterSnapshot (afterChange (record { frame = 9; bytes = [] } ∷ [])
+    (afterKind migration (afterKind flush (afterKind header (afterKind flush
+    (afterKind trailer (afterKind directory (afterKind page (afterKind page (afterKind flush rescinded))))))))))
+
+none-waited-for : tracePast isPage 12 rescinded-home
+    ≡ line page 5 ∷ line directory 6 ∷ line trailer 7 ∷ line flush 0 ∷ line header 0 ∷ line flush 0
+    ∷ line migration 9 ∷ []
+unfolding tracePast isPage rescinded-home rescinded traced line began advanceDue migrationDue migrating leading passedTo kindWrite afterKind afterChange
+    changeFrames changeFrame queued turnOf noteChange afterSnapshot outOf places size generationSize empty directoryOf
+    dirOf downEntries byFrame insertByFrame nextMigration trailerBlockNo ringAt
+none-waited-for = refl
