@@ -76,8 +76,8 @@ lentTo snapshot w = w .held
 lentTo pageOut w = w .held
 lentTo (advance n) w = w .held
 
--- The layer above changes home frames only, each with a whole block of bytes, and hands down every frame that a change makes needed. It passes over committed entries
--- only of frames that are not needed.
+-- The layer above changes home frames only, each with a whole block of bytes, and hands down every frame that a
+-- change makes needed. It passes over committed entries only of frames that are not needed.
 abbrev pub Asked : Needs → FrameCall → Lent → FrameBook → Type 0
 Asked needed (start m) l b = Unit {0}
 Asked needed (change ws) l b = All (WholeFrame (l .store .geometry .area) (l .store .geometry .blocks)) ws × Brings needed (l .store .geometry .area) (l .store .geometry .blocks) ws (b .present)
@@ -124,13 +124,15 @@ pub record Serves (card : List ℕ) (l : Lent) : Type 0 where
   pub area-is : meaningOf l .area ≡ headerOn (blockAt card 0) .area
   pub ranges-is : meaningOf l .ranges ≡ headerRanges (headerOn (blockAt card 0))
 
--- after any list of calls and cuts a start accepts, writes nothing, and loads of needed frames show what the book keeps
+-- after any list of calls and cuts a start accepts, writes nothing, and loads of needed frames show what the book
+-- keeps
 abbrev pub FramesRecover : Needs → Type 0
 FramesRecover needed = (m₀ card : List ℕ) → firstNo (startAsks m₀ card) ≡ 0 → (w : FrameWorld) → FrameRun needed (firstWorld m₀ card) w
     → (m : List ℕ) → whole 4 64 (length m) ≡ true → (a : FrameAnswer) (l : Lent) → FrameKept (start m) (startLent m (seen (w .drive))) a l
     → (a ≡ done) × (l .card ≡ seen (w .drive)) × Serves card l × ((f : ℕ) (x : List ℕ) → HomeFrame card f → needed (w .book .kept) f ≡ true → Loads l f x → x ≡ w .book .kept f)
 
--- where a record is held that passes questions 1 to 3, loads of needed frames show what is present, and those of the committed generation what is kept
+-- where a record is held that passes questions 1 to 3, loads of needed frames show what is present, and those of
+-- the committed generation what is kept
 abbrev pub FramesPresent : Needs → Type 0
 FramesPresent needed = (m₀ card : List ℕ) → firstNo (startAsks m₀ card) ≡ 0 → (w : FrameWorld) → FrameRun needed (firstWorld m₀ card) w
     → (l : Lent) → w .held ≡ some l → firstNo (common l) ≡ 0 → (f : ℕ) (x : List ℕ) → HomeFrame card f → needed (w .book .present) f ≡ true → Loads l f x → x ≡ w .book .present f

@@ -84,7 +84,8 @@ pub record Keeps {A : Type 0} (o : Outcome A) (back l : Lent) (a : A) (l′ : Le
 
 -- ---- the frame layer's calls
 
--- `change` is a change of frames, each with its new bytes, for the layer above. `advance` is told by the layer above how many committed entries are home or passed over.
+-- `change` is a change of frames, each with its new bytes, for the layer above. `advance` is told by the layer
+-- above how many committed entries are home or passed over.
 pub data FrameCall : Type 0 where
   start : (memory : List ℕ) → FrameCall
   change : (frames : List FrameBytes) → FrameCall

@@ -145,8 +145,8 @@ fn work_due(s: Store, card: &mut [u8], memory: &[u8], passed: usize) -> Advanced
     }
 }
 
-// A flush that is owed comes before all else. For a layer above that has asked questions 1 to 3, and tells how many committed entries are home or passed over: none is passed over
-// while a flush is owed.
+// A flush that is owed comes before all else. For a layer above that has asked questions 1 to 3, and tells how many
+// committed entries are home or passed over: none is passed over while a flush is owed.
 pub fn advance(s: Store, card: &mut [u8], memory: &[u8], passed: usize) -> Advanced
     requires { ⌜ (firstNo (commonAsks s (length (now memory)) (length (now card))) ≡ 0) × ((s .migrated ≤ passed) × ((passed ≤ s .committed .count) × (s .phase ≡ 2 → passed ≡ s .migrated))) ⌝ }
     ensures { λ r. ⌜ FrameKept (advance passed) (lent s (now (memory .entry)) (now (card .entry))) (reported (r .answer)) (lent (r .store) (now (memory .entry)) (now (card .exit))) ⌝ }

@@ -1,5 +1,5 @@
-// Document 02's case of an empty page: first write, rescind, snapshot, on the card of the whole run, whose blocks held
-// 255 before the format. Migration copies the pot (block 9) and passes over the page (block 10).
+// Document 02's case of an empty page: first write, rescind, snapshot, on the card of the whole run, whose blocks
+// held 255 before the format. Migration copies the pot (block 9) and passes over the page (block 10).
 use super::whole_run;
 use card::number;
 use frames::answer::Advance;

@@ -1,5 +1,5 @@
--- What is needed is told by the pots, which are always needed; and a write or a rescind hands down every frame that it
--- makes needed.
+-- What is needed is told by the pots, which are always needed; and a write or a rescind hands down every frame that
+-- it makes needed.
 -- Assumes nothing.
 use Prim.Native.Nat.{ℕ, suc, _+_, _-_, _*_, _/_, _%_, _≤_, _<_}
 use borrow.Author.Tests.{ltb-true, ltb-false, lt-ltb, le-ltb, eqb-true, eqb-false, eq-eqb, ne-eqb}

@@ -1,5 +1,5 @@
-// Advance: one block write of a commit or of migration, or a flush. The frame layer is told how many committed entries
-// are home or passed over.
+// Advance: one block write of a commit or of migration, or a flush. The frame layer is told how many committed
+// entries are home or passed over.
 use super::home;
 use frames::advance;
 use frames::answer::Advance;

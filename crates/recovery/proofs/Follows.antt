@@ -47,7 +47,8 @@ pub record Follows (needed : Needs) (blocks area : ℕ) (ranges : List Range) (s
   pub flushed-after : isFlushed (s .phase) ≡ true → AllDown s
   pub owed-before : isOwed (s .phase) ≡ true → (s .migrated ≡ 0) × (s .tailDown ≡ 0)
 
--- The first n committed entries are home or passed over: those from `migrated` on are of frames that are not needed. None is passed over while a flush is owed.
+-- The first n committed entries are home or passed over: those from `migrated` on are of frames that are not
+-- needed. None is passed over while a flush is owed.
 abbrev pub Passed : Needs → Contents → ℕ → State → Type 0
 Passed needed kept n s = (n ≤ length (s .committed .entries)) × ((j : ℕ) → s .migrated ≤ j → j < n → needed kept (nextMigration (passTo j s) .frame) ≡ false)
     × (s .migrated ≤ n) × (isOwed (s .phase) ≡ true → n ≡ s .migrated)

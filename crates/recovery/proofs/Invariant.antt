@@ -15,8 +15,9 @@
 --  10. All that waits fits memory.
 --  11. If one is pending, the commit number has a next.
 --  12. What is down of the pending directory and trailer is what will be read back, and none of it is down while a pending frame waits.
---  13. Needed committed entries that are copied home are at home as kept.
---  14. Pending over kept is marked, or kept where nothing is marked; also over other bytes where a frame is needed in marked and not in kept.
+--  13. Of the entries that are copied home or passed over, those of needed frames are at home as kept.
+--  14. Pending over kept is marked, or kept where nothing is marked; also over other bytes where a frame is needed
+--      in marked and not in kept.
 --  15. Current over that is present; also over other bytes where a frame is needed in present and not in marked.
 -- Assumes nothing.
 use Prim.Native.Nat.{ℕ, suc, _+_, _*_, _/_, _≤_, _<_}
@@ -85,11 +86,11 @@ pub record GenerationFits (blocks area first lo : ℕ) (g : SortedGeneration) : 
   pub held : All (WholeFrame area blocks) (g .waiting)
   pub apart : All (λ w. Absent (w .frame) (g .dir)) (g .waiting)
 
--- a state, by its sorted form, with its card and the book
 -- needed in the second table and not in the first
 unfoldable pub fresh : Needs → Contents → Contents → ℕ → Bool
 fresh needed u v f = cond (needed u f) false (needed v f)
 
+-- a state, by its sorted form, with its card and the book
 pub record Invariant (needed : Needs) (blocks : ℕ) (s : Sorted) (c : List ℕ) (b : FrameBook) : Type 0 where
   pub recoverable : Recoverable needed blocks (s .area) (s .ranges) (s .commit) (s .committed) c (b .kept)  -- 7
   pub half-pending : sizeOf (s .pending) ≤ s .area / 2  -- 8

@@ -70,7 +70,8 @@ WholeFrame area blocks w = (length (w .bytes) ≡ 512) × (area < w .frame) × (
 
 -- ---- frames that need not go home
 
--- The layer above says which frames of a table are needed: of every other one it never looks at the bytes, so that they may be lost.
+-- The layer above says which frames of a table are needed: of every other one it never looks at the bytes, so that
+-- they may be lost.
 abbrev pub Needs : Type 0
 Needs = Contents → ℕ → Bool
 

@@ -39,8 +39,8 @@ entriesNeeded (w ∷ ws) g = cond (notedIn (w .frame) (g .entries)) 0 1 + entrie
 abbrev pub sizeAfter : List FrameBytes → State → ℕ
 sizeAfter ws s = generationSize (places (s .current) + placesNeeded ws (s .current)) (entryCount (s .current) + entriesNeeded ws (s .current))
 
--- Of entries that are not home yet: how many in front are passed over, and how many there are to copy. `over` tells the
--- frames that are passed over (#104).
+-- Of entries that are not home yet: how many in front are passed over, and how many there are to copy. `over` tells
+-- the frames that are passed over (#104).
 unfoldable pub leading : (ℕ → Bool) → List Entry → ℕ
 leading over [] = 0
 leading over (e ∷ es) = cond (over (e .frame)) (suc (leading over es)) 0
