@@ -4,6 +4,8 @@ use lane::BLOCK;
 
 pub type Block = [u8; BLOCK];
 
+pub const ZEROS: Block = [0; BLOCK];
+
 /// The header's block.
 pub const HEADER: usize = 0;
 

@@ -53,10 +53,20 @@ fn shortened(bytes: &[u8]) -> String {
     format!("{first:?} of {} bytes", bytes.len())
 }
 
-/// A day begins with the create of its card.
+/// How a day begins.
+#[derive(Clone, Copy, Debug, PartialEq)]
+pub enum Begin {
+    /// The layer creates the card, which clears every page's home.
+    Created,
+    /// The layer opens a card that the library has formatted over any bytes: they still stand in
+    /// the area, and at home behind the flags of the empty pages.
+    Formatted,
+}
+
 #[derive(Clone, Debug)]
 pub struct Day {
     pub shape: Shape,
+    pub begin: Begin,
     pub calls: Vec<Call>,
 }
 
@@ -99,6 +109,15 @@ pub const STEPS: [Letter; 6] = [
     Letter::Reopen,
 ];
 
+/// Pages that are empty at one snapshot and not at another: which of them go home, and when.
+pub const EMPTIED: [Letter; 5] = [
+    Letter::Write0,
+    Letter::Write1,
+    Letter::Rescind0,
+    Letter::Snapshot,
+    Letter::Commit,
+];
+
 /// Those that reach furthest in few calls.
 pub const FAR: [Letter; 5] = [
     Letter::Write0,
@@ -132,7 +151,8 @@ impl Letter {
 }
 
 /// The card of the short days: two pages of one run. A 10 is the least area that holds the first
-/// writes to both in one generation.
+/// writes to both in one generation; A 12 holds a first write committed, another pending and a
+/// rescind beside them.
 pub fn tiny(area: usize, room: Room) -> Shape {
     Shape {
         area,
@@ -146,10 +166,11 @@ pub fn tiny(area: usize, room: Room) -> Shape {
 }
 
 /// The day of these letters.
-pub fn spelt(letters: &[Letter], shape: &Shape) -> Day {
+pub fn spelt(letters: &[Letter], shape: &Shape, begin: Begin) -> Day {
     let places = letters.iter().enumerate();
     Day {
         shape: shape.clone(),
+        begin,
         calls: places.map(|(i, letter)| letter.call(i + 1)).collect(),
     }
 }
@@ -180,7 +201,12 @@ pub fn long(seed: u64) -> Day {
     let most = if shape.oids().len() > 60 { 80 } else { 200 };
     let calls = rng.between(most / 2, most);
     let calls = more(&mut rng, &shape, calls);
-    Day { shape, calls }
+    let begin = rng.pick(&[Begin::Created, Begin::Formatted]);
+    Day {
+        shape,
+        begin,
+        calls,
+    }
 }
 
 fn shape(rng: &mut Rng) -> Shape {

@@ -45,9 +45,14 @@ pub trait Layer {
     /// What it is, and how it is used.
     fn name(&self) -> String;
 
+    /// How many bytes a drive has on which a card of this shape stands.
+    fn length(&self, shape: &Shape) -> usize {
+        shape.length()
+    }
+
     /// How many bytes may stand on the drive before a create of a card of this shape.
     fn lengths_before(&self, shape: &Shape) -> Vec<usize> {
-        vec![shape.length()]
+        vec![self.length(shape)]
     }
 
     fn create(&self, drive: &Shared, shape: &Shape) -> Result<Box<dyn Lane>, Fault>;

@@ -59,13 +59,20 @@ impl Layer for InC {
         format!("C, {:?}, unmapped {}", self.door, self.unmapped)
     }
 
-    /// A file is not there before, or has any length; a device is longer than the card.
-    fn lengths_before(&self, shape: &Shape) -> Vec<usize> {
-        let (length, more) = (shape.length(), BEHIND * BLOCK);
+    /// A device is longer than the card.
+    fn length(&self, shape: &Shape) -> usize {
         match self.door {
-            Door::Path(setting) if setting.device => vec![length + more],
-            Door::Path(_) => vec![0, length - more, length, length + more],
-            Door::Own => vec![length],
+            Door::Path(setting) if setting.device => shape.length() + BEHIND * BLOCK,
+            _ => shape.length(),
+        }
+    }
+
+    /// A file is not there before, or has any length.
+    fn lengths_before(&self, shape: &Shape) -> Vec<usize> {
+        let (length, more) = (self.length(shape), BEHIND * BLOCK);
+        match self.door {
+            Door::Path(setting) if !setting.device => vec![0, length - more, length, length + more],
+            _ => vec![length],
         }
     }
 

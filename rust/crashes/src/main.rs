@@ -1,9 +1,10 @@
 //! Crash trials of the ready layers, in Rust and in C.
 //!
-//! A day is a list of calls on a layer whose drive records every write and every flush. At every
-//! point of it the cards are made that a cut may leave. Each is opened by the layer again, and
-//! every page and count is held to the snapshot that the card's own header names. That must not be
-//! older than the last commit that was answered done. Drives that fail are tried too.
+//! A day is a list of calls on a layer whose drive records every write and every flush. It begins
+//! with a create, or on a card that was formatted over any bytes. At every point of it the cards are
+//! made that a cut may leave. Each is opened by the layer again, and every page and count is held to
+//! the snapshot that the card's own header names. That must not be older than the last commit that
+//! was answered done. Drives that fail are tried too.
 //!
 //! The layer in C is the object code that is shipped, over a system of this crate's own.
 

@@ -3,7 +3,7 @@
 mod between;
 
 use crate::cuts::Effort;
-use crate::day::{tiny, Letter, ALL, FAR};
+use crate::day::{tiny, Begin, Letter, ALL, FAR};
 use crate::layer::Layer;
 use crate::linked::{Door, InC};
 use crate::ready::{Ready, Recorded};
@@ -29,8 +29,9 @@ fn plain(effort: Effort) -> Effort {
 fn by_cuts(layer: &dyn Layer) -> Result<(), Wrong> {
     let mut run = Run::new(1);
     let shape = tiny(10, Room::Make);
-    work::short(&mut run, layer, &FAR, 5, &shape, plain(SHORT))?;
-    work::short(&mut run, layer, &ALL, 4, &shape, plain(SHORT))?;
+    let effort = plain(SHORT);
+    work::short(&mut run, layer, &FAR, 5, &shape, Begin::Created, effort)?;
+    work::short(&mut run, layer, &ALL, 4, &shape, Begin::Formatted, effort)?;
     (0..6).try_for_each(|seed| work::long(&mut run, layer, seed, plain(LONG)).map(|_| ()))
 }
 
@@ -41,8 +42,8 @@ fn by_second_cuts(layer: &dyn Layer) -> Result<(), Wrong> {
         go_on: 1000,
         ..plain(SHORT)
     };
-    let shape = tiny(10, Room::Make);
-    work::short(&mut Run::new(1), layer, &letters, 2, &shape, effort)
+    let (mut run, shape) = (Run::new(1), tiny(10, Room::Make));
+    work::short(&mut run, layer, &letters, 2, &shape, Begin::Created, effort)
 }
 
 fn by_failures(layer: &dyn Layer) -> Result<(), Wrong> {
@@ -85,6 +86,20 @@ fn none_in_c() {
     let layer = in_c(&shim::SHIPPED);
     assert!(by_cuts(&layer).is_ok() && by_failures(&layer).is_ok() && by_creates(&layer).is_ok());
     assert_eq!(system::with(|system| system.held()), 0);
+}
+
+/// What a create leaves at home is zeros, as an empty page is: only a card that was formatted over any
+/// bytes shows that a flag is not asked.
+#[test]
+fn rust_flags_not_asked() {
+    let (layer, shape) = (in_rust(Slip::FlagsNotAsked), tiny(10, Room::Make));
+    let letters = [Letter::Write0, Letter::Commit];
+    let days = |begin| {
+        let mut run = Run::new(1);
+        work::short(&mut run, &layer, &letters, 2, &shape, begin, plain(SHORT))
+    };
+    assert!(days(Begin::Created).is_ok());
+    caught(days(Begin::Formatted), "and 0 is right");
 }
 
 macro_rules! slips {

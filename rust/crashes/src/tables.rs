@@ -6,6 +6,7 @@ use crate::day::Call;
 use crate::layer::{Answer, Fault};
 use crate::shape::Room;
 use lane::{Report, BLOCK};
+use std::collections::BTreeSet;
 use std::rc::Rc;
 
 #[derive(Clone, PartialEq)]
@@ -22,11 +23,28 @@ pub type Pages = Vec<Rc<Page>>;
 pub struct Table {
     pub pages: Pages,
     pub mark: u64,
+    since: Since,
+}
+
+/// Pages that have changed since the snapshot before.
+#[derive(Clone, Default)]
+struct Since {
+    written: BTreeSet<usize>,
+    /// Written, and rescinded after it: they are in the generation, and empty.
+    emptied: BTreeSet<usize>,
+}
+
+impl Table {
+    /// Does migration pass over a page of this snapshot's generation?
+    pub fn passes_over(&self) -> bool {
+        !self.since.emptied.is_empty()
+    }
 }
 
 #[derive(Clone)]
 pub struct Tables {
     present: Pages,
+    since: Since,
     /// By commit number; the first is the empty card's.
     snapshots: Vec<Table>,
     /// Has a page changed since the last snapshot or open?
@@ -49,6 +67,7 @@ impl Tables {
         let present = vec![zeros; pages];
         let mut tables = Tables {
             present,
+            since: Since::default(),
             snapshots: Vec::new(),
             changed: false,
             header: 0,
@@ -83,7 +102,8 @@ impl Tables {
     fn snapshot(&mut self) {
         let pages = self.present.clone();
         let mark = mark(&pages);
-        self.snapshots.push(Table { pages, mark });
+        let since = std::mem::take(&mut self.since);
+        self.snapshots.push(Table { pages, mark, since });
         self.changed = false;
     }
 
@@ -106,8 +126,7 @@ impl Tables {
     /// The call was answered. Says what cannot be answered so.
     pub fn end(&mut self, call: &Call, room: Room, answer: &Answer) -> Result<(), String> {
         if std::mem::take(&mut self.may_be) && self.header < self.newest() {
-            self.snapshots.pop();
-            self.changed = true;
+            self.take_back();
         }
         match (call, answer) {
             (Call::Key(page), Answer::Count(count)) if *count == self.present[*page].count => {}
@@ -125,12 +144,26 @@ impl Tables {
         Ok(())
     }
 
+    /// The newest snapshot was not made.
+    fn take_back(&mut self) {
+        self.since = self.snapshots.pop().expect("the one that may be").since;
+        self.changed = true;
+    }
+
     fn write(&mut self, page: usize, at: usize, bytes: &[u8]) {
+        if bytes.is_empty() {
+            return;
+        }
         Rc::make_mut(&mut self.present[page]).bytes[at..at + bytes.len()].copy_from_slice(bytes);
-        self.changed |= !bytes.is_empty();
+        self.since.written.insert(page);
+        self.since.emptied.remove(&page);
+        self.changed = true;
     }
 
     fn rescind(&mut self, page: usize) {
+        if self.since.written.contains(&page) {
+            self.since.emptied.insert(page);
+        }
         let page = Rc::make_mut(&mut self.present[page]);
         page.count += 1;
         page.bytes = [0; BLOCK];
@@ -179,6 +212,7 @@ impl Tables {
     pub fn opened(&mut self, commit: u32) -> Result<(), String> {
         self.present = self.shown(commit)?.pages.clone();
         self.snapshots.truncate(commit as usize + 1);
+        self.since = Since::default();
         self.changed = false;
         self.header = commit;
         self.safe = commit;
@@ -272,6 +306,33 @@ mod tests {
         tables.header(1);
         tables.end(&write(3), Room::Commit, &Answer::Done).unwrap();
         assert_eq!((byte(&tables, 1), tables.present[0].bytes[0]), (2, 3));
+    }
+
+    /// Whether the last snapshot's generation has a page that is passed over.
+    fn passes_over(calls: &[Call]) -> bool {
+        let mut tables = Tables::empty(2);
+        made(&mut tables, Room::Make, calls);
+        tables.shown(tables.newest()).unwrap().passes_over()
+    }
+
+    #[test]
+    fn a_page_that_is_rescinded_in_the_generation_that_has_it_is_passed_over() {
+        let (rescind, commit) = (Call::Rescind(0), Call::Commit);
+        let over = [write(1), rescind.clone(), commit.clone()];
+        assert!(passes_over(&over));
+        let written_again = [write(1), rescind.clone(), write(2), commit.clone()];
+        assert!(!passes_over(&written_again));
+        let in_the_next = [write(1), commit.clone(), rescind, commit];
+        assert!(!passes_over(&in_the_next));
+    }
+
+    #[test]
+    fn a_snapshot_that_was_not_made_forgets_no_page() {
+        let mut tables = Tables::empty(1);
+        made(&mut tables, Room::Commit, &[write(1), Call::Rescind(0)]);
+        made(&mut tables, Room::Commit, &[Call::Rescind(0), Call::Commit]);
+        assert_eq!(tables.newest(), 1);
+        assert!(tables.shown(1).unwrap().passes_over());
     }
 
     #[test]

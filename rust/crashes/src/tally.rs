@@ -14,6 +14,10 @@ pub struct Tally {
     pub new_headers: u64,
     pub torn: u64,
     pub spoilt: u64,
+    /// Those of a generation of which migration passes over a page, and those that have bytes other
+    /// than zeros at home behind a set flag.
+    pub passed_over: u64,
+    pub behind_flags: u64,
     pub create: u64,
     pub after_failures: u64,
     pub second: u64,
@@ -23,7 +27,7 @@ pub struct Tally {
 type Row = (&'static str, u64, u64);
 
 impl Tally {
-    fn rows(&self) -> [Row; 13] {
+    fn rows(&self) -> [Row; 15] {
         [
             ("days", self.days, 190_000),
             ("calls", self.calls, 1_000_000),
@@ -35,6 +39,8 @@ impl Tally {
             ("  header new", self.new_headers, 4_000),
             ("  torn", self.torn, 200_000),
             ("  spoilt", self.spoilt, 70_000),
+            ("  page passed over", self.passed_over, 20_000),
+            ("  bytes behind a flag", self.behind_flags, 400_000),
             ("  in create", self.create, 15_000),
             ("  after failures", self.after_failures, 7_000),
             ("  second cuts", self.second, 60_000),
@@ -78,7 +84,7 @@ mod tests {
 
     #[test]
     fn nothing_reached_is_missing() {
-        assert_eq!(Tally::default().missing().len(), 13);
+        assert_eq!(Tally::default().missing().len(), 15);
     }
 
     #[test]

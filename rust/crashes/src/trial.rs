@@ -72,6 +72,7 @@ pub struct Trial<'a> {
     shape: &'a Shape,
     effort: Effort,
     oids: Vec<u32>,
+    homes: Vec<usize>,
     tables: Tables,
     doubt: Doubt,
     record: Shared,
@@ -103,6 +104,7 @@ impl<'a> Trial<'a> {
             effort,
             tables: Tables::empty(oids.len()),
             oids,
+            homes: shape.homes(),
             doubt,
             record: shared(before.bytes),
             lane: None,
@@ -134,6 +136,13 @@ impl<'a> Trial<'a> {
         self.told.push("create: done".to_string());
         self.run.tally.points += u64::from(cut);
         self.answered()
+    }
+
+    /// Opens the empty card that the day begins with.
+    pub fn found(&mut self) -> Result<(), Wrong> {
+        self.life = Life::Made;
+        self.told.push("formatted over any bytes".to_string());
+        self.call(&Call::Reopen, false)
     }
 
     /// Makes a call, with cuts at every point of it or without.

@@ -1,7 +1,7 @@
 //! The parts of a run: creates, short days, long days, and days on a drive that fails.
 
 use crate::cuts::Effort;
-use crate::day::{self, all, spelt, tiny, Call, Day, Letter, ALL, FAR, STEPS};
+use crate::day::{self, all, spelt, tiny, Begin, Call, Day, Letter, ALL, EMPTIED, FAR, STEPS};
 use crate::failures;
 use crate::layer::{Doing, Layer};
 use crate::linked::{Door, InC};
@@ -40,6 +40,14 @@ fn before(layer: &dyn Layer, shape: &Shape) -> Before {
     any(layer.lengths_before(shape)[0])
 }
 
+/// An empty card, formatted over any bytes.
+fn formatted(layer: &dyn Layer, shape: &Shape) -> Before {
+    let mut before = any(layer.length(shape));
+    let card = &mut before.bytes[..shape.length()];
+    lane::format(card, shape.area, &shape.ranges).expect("the ranges fill the card");
+    before
+}
+
 /// A whole day, with cuts in the create and in every call, or in the last call alone. Gives what
 /// was recorded.
 fn whole(
@@ -49,9 +57,15 @@ fn whole(
     last: bool,
     effort: Effort,
 ) -> Result<Vec<Event>, Wrong> {
-    let before = before(layer, &day.shape);
+    let before = match day.begin {
+        Begin::Created => before(layer, &day.shape),
+        Begin::Formatted => formatted(layer, &day.shape),
+    };
     let mut trial = Trial::new(run, layer, &day.shape, before, effort);
-    trial.create(!last)?;
+    match day.begin {
+        Begin::Created => trial.create(!last)?,
+        Begin::Formatted => trial.found()?,
+    }
     for (i, call) in day.calls.iter().enumerate() {
         trial.call(call, !last || i + 1 == day.calls.len())?;
     }
@@ -67,12 +81,13 @@ pub fn short(
     letters: &[Letter],
     longest: usize,
     shape: &Shape,
+    begin: Begin,
     effort: Effort,
 ) -> Result<(), Wrong> {
     run.forget();
     for length in 1..=longest {
         for letters in all(letters, length) {
-            whole(run, layer, &spelt(&letters, shape), true, effort)?;
+            whole(run, layer, &spelt(&letters, shape, begin), true, effort)?;
         }
     }
     Ok(())
@@ -255,11 +270,14 @@ impl Both {
 
 /// All days of so many letters, and of one more where there are fewer to choose from.
 fn short_days(run: &mut Run, layer: &dyn Layer, longest: usize) -> Result<(), Wrong> {
+    use Begin::{Created, Formatted};
     let (wide, narrow) = (tiny(10, Room::Make), tiny(8, Room::Commit));
-    short(run, layer, &ALL, longest, &wide, SHORT)?;
-    short(run, layer, &ALL, longest - 1, &narrow, SHORT)?;
-    short(run, layer, &FAR, longest + 1, &wide, SHORT)?;
-    short(run, layer, &STEPS, longest + 1, &wide, SHORT)
+    let widest = tiny(12, Room::Make);
+    short(run, layer, &ALL, longest, &wide, Formatted, SHORT)?;
+    short(run, layer, &ALL, longest - 1, &narrow, Created, SHORT)?;
+    short(run, layer, &FAR, longest + 1, &wide, Created, SHORT)?;
+    short(run, layer, &STEPS, longest + 1, &wide, Created, SHORT)?;
+    short(run, layer, &EMPTIED, longest + 1, &widest, Formatted, SHORT)
 }
 
 /// Both layers bring the same writes and flushes to the drive. Only a file takes a length.

@@ -1,5 +1,5 @@
 //! A drive between the layer in Rust and the recorded one: what reaches the record is what a layer
-//! with this slip would have brought there.
+//! with this slip would have brought there, and what is read of it what that layer would take it for.
 
 use crate::block::{block, HEADER};
 use crate::ready::Recorded;
@@ -43,6 +43,8 @@ pub enum Slip {
     /// What fails is tried again.
     Retried,
     CreateNotFlushed,
+    /// The flags of the first pot at home are taken for clear.
+    FlagsNotAsked,
 }
 
 /// Where a flush belongs.
@@ -93,14 +95,19 @@ impl Between {
         }
     }
 
+    /// A, by the header on the drive.
+    fn area(&self) -> usize {
+        let header = block(self.under.0.borrow().bytes(), HEADER);
+        u32::from_le_bytes(header[12..16].try_into().expect("four bytes")) as usize
+    }
+
     /// The kind of a block with these bytes, as far as it can be told.
     fn kind(&self, number: usize, bytes: &[u8]) -> Kind {
         let at = |at: usize| {
             let four = bytes[at..at + 4].try_into().expect("four bytes");
             u32::from_le_bytes(four) as usize
         };
-        let header = block(self.under.0.borrow().bytes(), HEADER);
-        let area = u32::from_le_bytes(header[12..16].try_into().expect("four bytes")) as usize;
+        let area = self.area();
         if number > area {
             Kind::Home
         } else if bytes[..496].iter().all(|byte| *byte == 0) && at(496) > 0 {
@@ -181,7 +188,13 @@ impl Drive for Between {
     }
 
     fn read(&mut self, at: u64, buffer: &mut [u8]) -> io::Result<()> {
-        self.under.read(at, buffer)
+        self.under.read(at, buffer)?;
+        if self.slip == Slip::FlagsNotAsked {
+            let pot = &mut buffer[(1 + self.area()) * BLOCK..][..BLOCK];
+            let flags = pot.iter_mut().skip(4).step_by(5);
+            flags.for_each(|flags| *flags &= !1);
+        }
+        Ok(())
     }
 
     fn write(&mut self, at: u64, bytes: &[u8]) -> io::Result<()> {

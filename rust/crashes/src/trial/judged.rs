@@ -2,7 +2,7 @@
 //! with.
 
 use super::{Life, Part, Trial};
-use crate::block::{commit, Block};
+use crate::block::{block, commit, Block, ZEROS};
 use crate::cuts::{cuts, Cut, Effort};
 use crate::day::{more, Call};
 use crate::doubt::{Doubt, Left};
@@ -26,6 +26,8 @@ struct Right {
     /// Tells it from others.
     mark: u64,
     may_be_refused: bool,
+    /// Migration passes over a page of its committed generation.
+    passes_over: bool,
 }
 
 impl Trial<'_> {
@@ -47,8 +49,10 @@ impl Trial<'_> {
         if !cut.is_spoilt() && !self.run.seen.insert(self.mark(left, cut, &right)) {
             return Ok(());
         }
+        let card = cut.card(left);
         self.count(left, cut);
-        let record = shared(cut.card(left));
+        self.count_empty(&card, &right);
+        let record = shared(card);
         let opened = match self.layer.open(&record, self.shape) {
             Ok(mut lane) => {
                 let shown = shows(&mut *lane, &self.oids, &right.pages);
@@ -72,11 +76,13 @@ impl Trial<'_> {
                 pages: old.1.clone(),
                 mark: 2,
                 may_be_refused: false,
+                passes_over: false,
             }),
             Life::Creating(_) => Ok(Right {
                 pages: self.tables.present().clone(),
                 mark: 1,
                 may_be_refused: true,
+                passes_over: false,
             }),
             Life::Made => {
                 let table = self.tables.shown(commit(header))?;
@@ -84,6 +90,7 @@ impl Trial<'_> {
                     pages: table.pages.clone(),
                     mark: table.mark.rotate_left(7),
                     may_be_refused: false,
+                    passes_over: table.passes_over(),
                 })
             }
         }
@@ -117,6 +124,17 @@ impl Trial<'_> {
         }
     }
 
+    /// An empty page may have any bytes at home.
+    fn count_empty(&mut self, card: &[u8], right: &Right) {
+        if matches!(self.life, Life::Creating(_)) {
+            return;
+        }
+        let mut pages = right.pages.iter().zip(&self.homes);
+        let behind = pages.any(|(page, home)| page.bytes == ZEROS && block(card, *home) != ZEROS);
+        self.run.tally.behind_flags += u64::from(behind);
+        self.run.tally.passed_over += u64::from(right.passes_over);
+    }
+
     /// Some of the cards that were opened are gone on with, and cut again.
     fn may_go_on(&mut self, cut: &str, lane: Box<dyn Lane>, record: Shared) -> Result<(), Wrong> {
         let made = matches!(self.life, Life::Made);
@@ -142,6 +160,7 @@ impl Trial<'_> {
             shape: self.shape,
             effort: SECOND,
             oids: self.oids.clone(),
+            homes: self.homes.clone(),
             tables,
             doubt,
             record,
