@@ -162,7 +162,7 @@ enum lane_kind {
     LANE_P = 1,       /* the oldest waiting frame, to the area */
     LANE_D = 2,       /* a block of its directory */
     LANE_T = 3,       /* its trailer */
-    LANE_M = 4,       /* a frame of the committed generation, copied to its home block */
+    LANE_M = 4,       /* a frame of the committed generation, copied to its home block; never an empty page */
     LANE_H = 5,       /* the header: the snapshot is committed once it is flushed */
     LANE_F = 6        /* no block: FLUSH the device before the next call, and write nothing */
 };
@@ -262,7 +262,8 @@ uint32_t lane_write(lane_store *s, const uint8_t *card, size_t card_len, uint8_t
                     size_t memory_len, uint32_t oid, uint32_t count, size_t at,
                     const uint8_t *bytes, size_t bytes_len);
 
-/* Makes the page zeros and adds 1 to its count, so that every key to it is old.
+/* Empties the page, which then reads as zeros, and adds 1 to its count, so that every key to it is old.
+   WIPES NOTHING: its old bytes may stay on the card, in the area and in its home block.
    Answers LANE_MEMORY 1, LANE_RECORD 2, LANE_CARD 3, LANE_OID 9, LANE_COUNT 10, LANE_COUNT_END 15,
    LANE_GENERATION_FULL 12, LANE_AREA_FULL 13, LANE_MEMORY_FULL 14. */
 uint32_t lane_rescind(lane_store *s, const uint8_t *card, size_t card_len, uint8_t *memory,
@@ -281,8 +282,10 @@ lane_report lane_page_out(lane_store *s, uint8_t *card, size_t card_len, const u
                           size_t memory_len);
 
 /* Makes the next block write of a commit or of migration, or asks for the flush that comes before it:
-   just before every LANE_H, just after it, and first of all after a start. LANE_NOTHING_DUE: all is
-   home.
+   just before every LANE_H, just after it, and first of all after a start. Migration passes over a
+   page that is empty in the committed generation, one whose flag is set in its pot there: its home
+   block keeps what it has, any bytes, and no call reads it. LANE_NOTHING_DUE: all is home that is to
+   be read there.
    Answers LANE_MEMORY 1, LANE_RECORD 2, LANE_CARD 3, LANE_NOTHING_DUE 20. */
 lane_report lane_advance(lane_store *s, uint8_t *card, size_t card_len, const uint8_t *memory,
                          size_t memory_len);

@@ -171,7 +171,8 @@ int lane_file_read(const lane_file *lane, uint32_t oid, uint32_t count, void *pa
    18. LANE_FILE_WRITE or _FLUSH where room was to be made. */
 int lane_file_write(lane_file *lane, uint32_t oid, uint32_t count, size_t at, const void *bytes, size_t n);
 
-/* Makes the page zeros and adds 1 to its count, so that every key to it is old.
+/* Empties the page, which then reads as zeros, and adds 1 to its count, so that every key to it is old. WIPES
+   NOTHING: its old bytes may stay on the card.
    Answers LANE_OID 9, LANE_COUNT 10, LANE_COUNT_END 15, and for room what lane_file_write answers. */
 int lane_file_rescind(lane_file *lane, uint32_t oid, uint32_t count);
 
@@ -198,7 +199,8 @@ int lane_file_finish(lane_file *lane);
    Answers LANE_NOTHING_DUE 20. */
 int lane_file_advance(lane_file *lane, lane_report *report);
 
-/* All that is due, for a lane that is idle: a pending snapshot is made safe, and its pages are brought home. */
+/* All that is due, for a lane that is idle: a pending snapshot is made safe, and its pages are brought home, but
+   for empty ones, which are passed over. */
 int lane_file_settle(lane_file *lane);
 
 /*

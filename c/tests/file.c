@@ -154,6 +154,23 @@ static void steps(const char *path)
     lane_file_close(lane);
 }
 
+/* A page that is rescinded before its snapshot is passed over: M of its pot, and no other is due. */
+static void passed_over(const char *path)
+{
+    lane_file *lane = created(path, AREA, kill_safe());
+    lane_report report;
+    IS(fill(lane, FIRST, 5), LANE_DONE);
+    IS(lane_file_rescind(lane, FIRST, 0), LANE_DONE);
+    IS(lane_file_commit(lane), LANE_DONE);
+    IS(lane_file_advance(lane, &report), LANE_DONE);
+    IS(report.kind, LANE_M);
+    IS((long)report.block, 1 + AREA);
+    IS(lane_file_advance(lane, &report), LANE_NOTHING_DUE);
+    lane_file_close(lane);
+    IS(shown(lane = opened(path, kill_safe()), FIRST), 0);
+    lane_file_close(lane);
+}
+
 /* Half of the area holds three new pages and their pot. */
 static void generation_full(const char *path, enum lane_file_room room)
 {
@@ -391,6 +408,7 @@ int main(int argc, char **argv)
     keys(path);
     commit_over_pending(path);
     steps(path);
+    passed_over(path);
     rooms(path);
     one_at_a_time(path);
     after_fork(path);

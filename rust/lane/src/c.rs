@@ -141,7 +141,7 @@ extern "C" {
         bytes: *const u8,
         bytes_len: usize,
     ) -> u32;
-    /// Makes a page zeros, and every key to it old.
+    /// Empties a page, and makes every key to it old.
     pub fn lane_rescind(
         s: *mut Record,
         card: *const u8,
@@ -167,7 +167,7 @@ extern "C" {
         memory: *const u8,
         memory_len: usize,
     ) -> Report;
-    /// Makes the next block write of a commit or of migration.
+    /// Makes the next block write of a commit or of migration, which passes over empty pages.
     pub fn lane_advance(
         s: *mut Record,
         card: *mut u8,

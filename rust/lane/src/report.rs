@@ -13,7 +13,7 @@ pub enum Report {
     D(usize),
     /// Its trailer.
     T(usize),
-    /// A frame of the committed generation, copied to its home block.
+    /// A frame of the committed generation, copied to its home block; never an empty page.
     M(usize),
     /// The header, block 0: the snapshot is safe at the flush after it.
     H(usize),

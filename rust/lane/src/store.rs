@@ -86,7 +86,9 @@ impl Store {
         Refusal::done(raw::write(&mut self.record, card, memory, key, at, bytes))
     }
 
-    /// Makes a page zeros and adds 1 to its count, so that every key to it is old.
+    /// Empties a page, which then reads as zeros, and adds 1 to its count, so that every key to it is
+    /// old. It wipes nothing: the old bytes may stay on the card, in the area and in the page's home
+    /// block.
     ///
     /// # Errors
     ///
@@ -123,6 +125,10 @@ impl Store {
 
     /// Makes the next block write of a commit or of migration, and reports it; or asks for the flush
     /// that comes before it: just before every header write, just after it, and first after a start.
+    ///
+    /// Migration passes over a page that is empty in the committed generation, one whose flag is set
+    /// in its pot there: its home block keeps what it has, any bytes, and no call reads it. Refused
+    /// 20, all is home that is to be read there.
     ///
     /// # Errors
     ///

@@ -112,7 +112,8 @@ impl<D: Drive> Lane<D> {
         })
     }
 
-    /// Makes a page zeros and adds 1 to its count, so that every key to it is old.
+    /// Empties a page, which then reads as zeros, and adds 1 to its count, so that every key to it is
+    /// old. It wipes nothing: the old bytes may stay on the card.
     ///
     /// # Errors
     ///
@@ -176,7 +177,8 @@ impl<D: Drive> Lane<D> {
     }
 
     /// Makes all block writes and flushes that are due, for idle time: what is pending is safe then,
-    /// and the pages of the last commit are home, so that the next commit finds less to do.
+    /// and the pages of the last commit are home, but for empty ones, which are passed over. So the
+    /// next commit finds less to do.
     ///
     /// # Errors
     ///
