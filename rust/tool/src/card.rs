@@ -215,12 +215,15 @@ impl Run {
     }
 }
 
+/// What is said of an empty page.
+pub const EMPTY: &str = "empty; home may hold any bytes";
+
 /// Count and flag of a run's page, by the pot's bytes.
 #[derive(Clone, Copy, Debug, PartialEq)]
 pub struct Mark {
     pub count: u32,
-    /// The page is all zeros, and no block is read for it.
-    pub zeros: bool,
+    /// The flag is set: the page reads as zeros, and no block is read for it.
+    pub empty: bool,
 }
 
 impl Mark {
@@ -228,8 +231,13 @@ impl Mark {
         let at = 5 * entry;
         Mark {
             count: number(pot, at),
-            zeros: pot[at + 4] & 1 == 1,
+            empty: pot[at + 4] & 1 == 1,
         }
+    }
+
+    pub fn said(self) -> String {
+        let flag = if self.empty { EMPTY } else { "not empty" };
+        format!("count {}, {flag}", self.count)
     }
 }
 

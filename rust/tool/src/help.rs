@@ -70,13 +70,17 @@ usage: lane dump IMAGE
 Shows the header, the ranges with their blocks, trailer and directory of the committed generation,
 and then what each block is. Neighbours that are alike are shown as one. Of a card that a start
 refuses it shows as much as can be told, and why it is refused (status 1).
+
+A page whose flag is set is empty: it reads as zeros, and no block is read for it. Migration passes
+over it, so its home block may hold any bytes.
 ";
 
 pub const PAGE: &str = "\
 usage: lane page IMAGE OID
 
-Shows a page as a start does: its count, its flag, where it stands, and its bytes. A star stands for
-lines like the one before. An OID in no range is status 1.
+Shows a page as a start does: its count, its flag, where it stands, and its bytes. A page whose flag
+is set is empty: it reads as zeros, whatever its home block holds. A star stands for lines like the
+one before. An OID in no range is status 1.
 ";
 
 pub const EXPORT: &str = "\
@@ -113,7 +117,8 @@ pub const MAP: &str = "\
 usage: lane map IMAGE [--out FILE.svg]
 
 Draws the card as SVG: the ring of the checkpoint area with the committed generation and where the
-next one begins, and the home ranges, a row for each pot and its pages, by where their bytes are.
+next one begins, and the home ranges, a row for each pot and its pages, by where their bytes are. An
+empty page, one whose flag is set, has none: it reads as zeros, and its home may hold any bytes.
 
   --out FILE.svg      write to FILE.svg, and not to standard output
 ";

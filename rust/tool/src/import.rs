@@ -105,7 +105,7 @@ fn read(file: &Path) -> Result<Exported, Failure> {
     Exported::parse(&text).map_err(wrong)
 }
 
-/// All pages are safe and home when it is done.
+/// All pages are safe when it is done, and home where they are to be read there.
 fn bring(
     mut lane: Lane,
     exported: &Exported,

@@ -66,7 +66,7 @@ fn subtitle(card: &Started) -> String {
 /// How a block is coloured, by its class in the style.
 #[derive(Clone, Copy, Debug, Eq, Ord, PartialEq, PartialOrd)]
 enum Paint {
-    Zeros,
+    Empty,
     Home,
     Committed,
     Pot,
@@ -80,7 +80,7 @@ enum Paint {
 impl Paint {
     fn class(self) -> &'static str {
         match self {
-            Paint::Zeros => "zeros",
+            Paint::Empty => "empty",
             Paint::Home => "home",
             Paint::Committed => "committed",
             Paint::Pot => "pot",
@@ -113,9 +113,9 @@ impl Paint {
         }
     }
 
-    fn of_page(card: &Started, page: usize, zeros: bool) -> Paint {
+    fn of_page(card: &Started, page: usize, empty: bool) -> Paint {
         match card.in_area(page) {
-            _ if zeros => Paint::Zeros,
+            _ if empty => Paint::Empty,
             Some(_) => Paint::Committed,
             None => Paint::Home,
         }

@@ -21,13 +21,17 @@ pub fn run(arguments: &Arguments) -> Result<(), Failure> {
     out.line(format_args!("OID     {oid}"))?;
     out.line(format_args!("count   {}", key.count))?;
     if let Some((run, entry)) = card.geometry.place(oid) {
-        let zeros = card.mark(&run, entry).zeros;
-        let flag = if zeros { "zeros" } else { "not zeros" };
+        let (page, empty) = (run.page(entry), card.mark(&run, entry).empty);
+        let (flag, page) = match empty {
+            true => (
+                "set",
+                format!("empty; home block {page} may hold any bytes"),
+            ),
+            false => ("clear", stands(&card, page)),
+        };
         out.line(format_args!("flag    {flag}"))?;
         out.line(format_args!("pot     {}", stands(&card, run.pot)))?;
-        if !zeros {
-            out.line(format_args!("page    {}", stands(&card, run.page(entry))))?;
-        }
+        out.line(format_args!("page    {page}"))?;
     }
     out.text(&hex::dump(&page))?;
     out.finish()

@@ -115,6 +115,24 @@ impl Started {
         }
     }
 
+    /// What the directory finds in an area block, in words.
+    pub fn said_in(&self, block: usize) -> String {
+        let frames = self.frames_in(block);
+        let said: Vec<String> = frames.iter().map(|frame| self.entry_said(frame)).collect();
+        said.join(", ")
+    }
+
+    /// Migration passes over the entry of an empty page.
+    fn entry_said(&self, frame: &Frame) -> String {
+        let said = frame.said();
+        match frame {
+            Frame::Page { run, entry } if self.mark(run, *entry).empty => {
+                format!("{said}, passed over")
+            }
+            _ => said,
+        }
+    }
+
     /// The frames that the directory finds in an area block: one as a rule, none where it was
     /// written again, several only where something else wrote the directory.
     pub fn frames_in(&self, block: usize) -> Vec<Frame> {

@@ -2,7 +2,7 @@
 
 mod common;
 
-use common::{busy, lane, on, put_number, range, whole_image, Folder, Maker};
+use common::{busy, emptied, lane, on, put_number, range, whole_image, Folder, Maker};
 use lane::BLOCK;
 use std::fs;
 use std::process::{Command, Stdio};
@@ -148,7 +148,7 @@ blocks
   4               area, trailer
   5 to 8          area, free; the next generation begins at block 5
   9               home, pot of OID 100; committed in area block 2
-  10              home, OID 100: count 0, not zeros; committed in area block 1
+  10              home, OID 100: count 0, not empty; committed in area block 1
 ";
     assert_eq!(said, wanted);
 }
@@ -161,8 +161,8 @@ fn dump_folds_what_is_alike() {
         "  1               area, trailer",
         "  2 to 16         area, free; the next generation begins at block 2",
         "  17              area, page block that no entry names",
-        "  27              home, OID 101: count 2, zeros",
-        "  31 to 126       home, OIDs 105 to 200: count 0, zeros",
+        "  27              home, OID 101: count 2, empty; home may hold any bytes",
+        "  31 to 126       home, OIDs 105 to 200: count 0, empty; home may hold any bytes",
         "  128             home, pot of OID 202",
     ] {
         assert!(said.lines().any(|said| said == line), "{line}\n{said}");
@@ -173,11 +173,54 @@ fn dump_folds_what_is_alike() {
     assert_eq!(
         blocks[3..],
         [
-            "  9 to 1018       home, 10 pots, and OIDs 0 to 999: count 0, zeros",
+            "  9 to 1018       home, 10 pots, and OIDs 0 to 999: count 0, \
+             empty; home may hold any bytes",
             "  1019            home, pot of OIDs 5000 to 5002",
-            "  1020 to 1022    home, OIDs 5000 to 5002: count 0, zeros",
+            "  1020 to 1022    home, OIDs 5000 to 5002: count 0, empty; home may hold any bytes",
         ]
     );
+}
+
+#[test]
+fn dump_tells_of_a_page_that_is_passed_over() {
+    let folder = Folder::new();
+    let said = on("dump", &folder.file("card", emptied()), &[]).done();
+    let blocks: Vec<&str> = said.lines().skip_while(|line| *line != "blocks").collect();
+    assert_eq!(
+        blocks[2..],
+        [
+            "  1               area, page block: OID 100, passed over",
+            "  2               area, page block: pot of OIDs 100 to 101",
+            "  3               area, directory",
+            "  4               area, trailer",
+            "  5 to 8          area, free; the next generation begins at block 5",
+            "  9               home, pot of OIDs 100 to 101; committed in area block 2",
+            "  10              home, OID 100: count 1, empty; home may hold any bytes",
+            "  11              home, OID 101: count 0, empty; home may hold any bytes",
+        ]
+    );
+}
+
+/// Neither what stands at home nor what the area has of it.
+#[test]
+fn an_empty_page_is_shown_and_exported_as_zeros() {
+    let folder = Folder::new();
+    let card = emptied();
+    assert_eq!((card[BLOCK], card[10 * BLOCK]), (7, 9));
+    let image = folder.file("card", card);
+    let wanted = "\
+OID     100
+count   1
+flag    set
+pot     area block 2, committed for home block 9
+page    empty; home block 10 may hold any bytes
+00000000: 00 00 00 00 00 00 00 00 00 00 00 00 00 00 00 00  ................
+*
+000001f0: 00 00 00 00 00 00 00 00 00 00 00 00 00 00 00 00  ................
+";
+    assert_eq!(on("page", &image, &["100"]).done(), wanted);
+    let exported = "lane export 1 area 8 range 100:2\npage 100 count 1 zeros\nend 1\n";
+    assert_eq!(on("export", &image, &[]).done(), exported);
 }
 
 #[test]
@@ -210,7 +253,7 @@ fn page_shows_a_page_as_a_start_does() {
     let wanted = "\
 OID     104
 count   0
-flag    not zeros
+flag    clear
 pot     area block 19, committed for home block 25
 page    area block 23, committed for home block 30
 00000000: 61 67 61 69 6e 68 68 68 68 68 68 68 68 68 68 68  againhhhhhhhhhhh
@@ -219,9 +262,8 @@ page    area block 23, committed for home block 30
 000001f0: 68 68 68 68 68 68 68 68 68 68 68 68 68 68 68 68  hhhhhhhhhhhhhhhh
 ";
     assert_eq!(said, wanted);
-    let zeros = on("page", &image, &["101"]).done();
-    assert!(zeros.contains("count   2\nflag    zeros\npot     area block 19"));
-    assert!(!zeros.contains("page "), "{zeros}");
+    let empty = on("page", &image, &["101"]).done();
+    assert!(empty.contains("count   2\nflag    set\npot     area block 19"));
     let home = on("page", &image, &["202"]).done();
     assert!(home.contains("pot     home block 128\npage    home block 129\n"));
 }

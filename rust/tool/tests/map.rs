@@ -2,7 +2,7 @@
 
 mod common;
 
-use common::{busy, on, range, whole_image, Folder, Maker};
+use common::{busy, emptied, on, range, whole_image, Folder, Maker};
 use std::fs;
 
 /// Elements that are opened, each closed in its turn; its text has no loose signs.
@@ -82,8 +82,8 @@ fn a_map_has_the_ring_and_the_ranges() {
     assert_eq!(told(&svg, "block 19: pot of OIDs 100 to 201"), 1);
     assert_eq!(told(&svg, ": free"), 15);
     assert_eq!(told(&svg, "the next generation begins at block 2"), 1);
-    assert_eq!(told(&svg, "OIDs 105 to 200: count 0, zeros"), 1);
-    assert_eq!(told(&svg, "OID 101: count 2, zeros"), 1);
+    assert_eq!(told(&svg, "OIDs 105 to 200: count 0, empty"), 1);
+    assert_eq!(told(&svg, "OID 101: count 2, empty"), 1);
     assert_eq!(told(&svg, "OID 104: count 0, bytes in the area"), 1);
     assert_eq!(told(&svg, "OID 202: count 0, bytes at home"), 1);
     for line in [
@@ -95,6 +95,14 @@ fn a_map_has_the_ring_and_the_ranges() {
     ] {
         assert!(svg.contains(line), "{line}");
     }
+}
+
+#[test]
+fn a_map_tells_of_a_page_that_is_passed_over() {
+    let svg = map(emptied());
+    assert_eq!(told(&svg, "block 1: OID 100, passed over"), 1);
+    assert_eq!(told(&svg, "empty; home may hold any bytes"), 2);
+    assert!(svg.contains(">empty page: home may hold any bytes</text>"));
 }
 
 #[test]

@@ -1,6 +1,6 @@
 //! What each block is, neighbours that are alike in one line.
 
-use crate::card::{Frame, Mark, Run};
+use crate::card::{Mark, Run};
 use crate::failure::Failure;
 use crate::output::Output;
 use crate::started::{Role, Started};
@@ -58,13 +58,10 @@ fn area_block(card: &Started, block: usize) -> String {
         Role::Directory => "area, directory".into(),
         Role::Trailer => "area, trailer".into(),
         Role::Free => "area, free".into(),
-        Role::Page => {
-            let frames: Vec<String> = card.frames_in(block).iter().map(Frame::said).collect();
-            match frames[..] {
-                [] => "area, page block that no entry names".into(),
-                _ => format!("area, page block: {}", frames.join(", ")),
-            }
-        }
+        Role::Page => match card.said_in(block).as_str() {
+            "" => "area, page block that no entry names".into(),
+            said => format!("area, page block: {said}"),
+        },
     }
 }
 
@@ -82,7 +79,7 @@ fn stretches(card: &Started, run: &Run) -> Vec<Stretch> {
     let mut stretches: Vec<Stretch> = Vec::new();
     for entry in 0..run.pages {
         let mark = card.mark(run, entry);
-        let in_area = card.in_area(run.page(entry)).filter(|_| !mark.zeros);
+        let in_area = card.in_area(run.page(entry)).filter(|_| !mark.empty);
         match stretches.last_mut() {
             Some(last) if last.mark == mark && last.in_area.or(in_area).is_none() => {
                 last.last = entry;
@@ -160,7 +157,7 @@ fn alike_lines(alike: Alike) -> Vec<Line> {
     } = alike;
     let (first_page, last_page) = (first.page(0), last.page(last.pages - 1));
     let oids = oids(first.first, last.last_oid());
-    let marked = marked(mark);
+    let marked = mark.said();
     if runs > 1 {
         return vec![Line {
             first: first.pot,
@@ -194,7 +191,7 @@ fn run_lines(card: &Started, run: &Run, stretches: &[Stretch]) -> Vec<Line> {
     };
     let pages = stretches.iter().map(|stretch| {
         let oids = oids(run.oid(stretch.first), run.oid(stretch.last));
-        let (marked, committed) = (marked(stretch.mark), committed(stretch.in_area));
+        let (marked, committed) = (stretch.mark.said(), committed(stretch.in_area));
         Line {
             first: run.page(stretch.first),
             last: run.page(stretch.last),
@@ -202,11 +199,6 @@ fn run_lines(card: &Started, run: &Run, stretches: &[Stretch]) -> Vec<Line> {
         }
     });
     std::iter::once(pot_line).chain(pages).collect()
-}
-
-fn marked(mark: Mark) -> String {
-    let zeros = if mark.zeros { "zeros" } else { "not zeros" };
-    format!("count {}, {zeros}", mark.count)
 }
 
 fn committed(in_area: Option<usize>) -> String {

@@ -2,7 +2,7 @@
 
 use super::svg::Svg;
 use super::{Paint, MARGIN, WIDTH};
-use crate::card::{Placed, Run};
+use crate::card::{Placed, Run, EMPTY};
 use crate::started::Started;
 use crate::text::oids;
 
@@ -117,7 +117,7 @@ impl Stretch {
     fn told(&self, run: &Run) -> String {
         let oids = oids(run.oid(self.first), run.oid(self.last));
         let what = match self.paint {
-            Paint::Zeros => "zeros",
+            Paint::Empty => EMPTY,
             Paint::Home => "bytes at home",
             _ => "bytes in the area",
         };
@@ -129,7 +129,7 @@ fn stretches(card: &Started, run: &Run) -> Vec<Stretch> {
     let mut stretches: Vec<Stretch> = Vec::new();
     for entry in 0..run.pages {
         let mark = card.mark(run, entry);
-        let paint = Paint::of_page(card, run.page(entry), mark.zeros);
+        let paint = Paint::of_page(card, run.page(entry), mark.empty);
         match stretches.last_mut() {
             Some(last) if (last.paint, last.count) == (paint, mark.count) => last.last = entry,
             _ => stretches.push(Stretch {

@@ -20,7 +20,7 @@ const AREA: [(Paint, &str); 6] = [
 ];
 
 const HOME: [(Paint, &str); 5] = [
-    (Paint::Zeros, "page of zeros"),
+    (Paint::Empty, "empty page: home may hold any bytes"),
     (Paint::Home, "page, its bytes at home"),
     (Paint::Committed, "page, its bytes in the area"),
     (Paint::Pot, "pot, its bytes at home"),

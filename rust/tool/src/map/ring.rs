@@ -2,7 +2,6 @@
 
 use super::svg::{short, Pair, Svg};
 use super::{Paint, RING_AT, RING_HEIGHT};
-use crate::card::Frame;
 use crate::started::Started;
 use crate::text::thousands;
 use std::f64::consts::TAU;
@@ -74,14 +73,12 @@ fn ticks(area: usize) -> Vec<usize> {
 }
 
 fn told(card: &Started, block: usize, paint: Paint) -> String {
-    let frames = card.frames_in(block);
-    let frames: Vec<String> = frames.iter().map(Frame::said).collect();
     match paint {
         Paint::Directory => format!("block {block}: directory"),
         Paint::Trailer => format!("block {block}: trailer"),
         Paint::Unnamed => format!("block {block}: page block that no entry names"),
         Paint::Free => format!("block {block}: free"),
-        _ => format!("block {block}: {}", frames.join(", ")),
+        _ => format!("block {block}: {}", card.said_in(block)),
     }
 }
 

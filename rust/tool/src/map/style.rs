@@ -17,7 +17,7 @@ fill:#1f2933}
 .header{fill:#52606d}
 .area{fill:#f0c987}
 .range{fill:#9cc5a9}
-.zeros{fill:#dde2e7}
+.empty{fill:#dde2e7}
 .home{fill:#57a173}
 .committed{fill:#e39a32}
 .pot{fill:#5b86c5}
@@ -36,7 +36,7 @@ text{fill:#e6e9ed}
 .header{fill:#8895a3}
 .area{fill:#8a6426}
 .range{fill:#3b6b4c}
-.zeros{fill:#323b45}
+.empty{fill:#323b45}
 .home{fill:#4fa372}
 .committed{fill:#e8a648}
 .pot{fill:#6596dd}

@@ -21,8 +21,8 @@ impl Tally {
         for run in card.geometry.ranges.iter().flat_map(|range| range.runs()) {
             *tally.home.entry(Paint::of_pot(card, run.pot)).or_default() += 1;
             for entry in 0..run.pages {
-                let zeros = card.mark(&run, entry).zeros;
-                let paint = Paint::of_page(card, run.page(entry), zeros);
+                let empty = card.mark(&run, entry).empty;
+                let paint = Paint::of_page(card, run.page(entry), empty);
                 *tally.home.entry(paint).or_default() += 1;
             }
         }

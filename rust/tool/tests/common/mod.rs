@@ -94,9 +94,14 @@ pub struct Maker {
 
 impl Maker {
     pub fn new(area: usize, ranges: &[Range]) -> Maker {
+        Maker::over(0, area, ranges)
+    }
+
+    /// On a card that had this byte throughout before its format.
+    pub fn over(byte: u8, area: usize, ranges: &[Range]) -> Maker {
         let blocks = |range: &Range| (range.pages + range.pages.div_ceil(102)) as usize;
         let home: usize = ranges.iter().map(blocks).sum();
-        let mut card = vec![0; (1 + area + home) * BLOCK];
+        let mut card = vec![byte; (1 + area + home) * BLOCK];
         let memory = vec![0; 64 * BLOCK];
         lane::format(&mut card, area, ranges).unwrap();
         Maker {
@@ -154,6 +159,13 @@ impl Maker {
 pub fn whole_image() -> Vec<u8> {
     let mut maker = Maker::new(8, &[range(100, 1)]);
     maker.write(100, &[7]).commit().settle();
+    maker.card
+}
+
+/// Two empty pages, one of them written and rescinded before its snapshot, and other bytes at home.
+pub fn emptied() -> Vec<u8> {
+    let mut maker = Maker::over(9, 8, &[range(100, 2)]);
+    maker.write(100, &[7]).rescind(100).commit().settle();
     maker.card
 }
 
