@@ -283,9 +283,9 @@ lane_report lane_page_out(lane_store *s, uint8_t *card, size_t card_len, const u
 
 /* Makes the next block write of a commit or of migration, or asks for the flush that comes before it:
    just before every LANE_H, just after it, and first of all after a start. Migration passes over a
-   page that is empty in the committed generation, one whose flag is set in its pot there: its home
-   block keeps what it has, any bytes, and no call reads it. LANE_NOTHING_DUE: all is home that is to
-   be read there.
+   page that is empty in the committed generation, one whose flag is set in its pot as that has it:
+   its home block keeps what it has, any bytes, and no call reads it. LANE_NOTHING_DUE: all is home
+   that is to be read there.
    Answers LANE_MEMORY 1, LANE_RECORD 2, LANE_CARD 3, LANE_NOTHING_DUE 20. */
 lane_report lane_advance(lane_store *s, uint8_t *card, size_t card_len, const uint8_t *memory,
                          size_t memory_len);

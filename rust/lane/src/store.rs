@@ -127,8 +127,8 @@ impl Store {
     /// that comes before it: just before every header write, just after it, and first after a start.
     ///
     /// Migration passes over a page that is empty in the committed generation, one whose flag is set
-    /// in its pot there: its home block keeps what it has, any bytes, and no call reads it. Refused
-    /// 20, all is home that is to be read there.
+    /// in its pot as that has it: its home block keeps what it has, any bytes, and no call reads it.
+    /// Refused 20, all is home that is to be read there.
     ///
     /// # Errors
     ///

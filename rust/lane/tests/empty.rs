@@ -98,6 +98,8 @@ fn a_page_that_is_rescinded_before_its_snapshot_is_passed_over() {
     lane.rescind(0);
     lane.snapshot();
     assert_eq!(lane.settle(), "F 0, P 1, P 2, D 3, T 4, F 0, H 0, F 0, M 9");
+    let entry = |pot: usize| &lane.card[pot * BLOCK..][..5];
+    assert_eq!([entry(2), entry(9)], [[1, 0, 0, 0, 1]; 2]);
     assert_eq!(lane.home(0), [OLD, OLD]);
     lane.start();
     assert_eq!((lane.page(0), lane.page(1)), ((1, 0), (0, 0)));

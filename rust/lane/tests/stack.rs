@@ -177,7 +177,8 @@ impl Lane {
     }
 }
 
-/// One frame is committed, 251 are pending and 248 current; then the 251 are committed.
+/// One frame is committed, 251 are pending and 248 current; then the 251 are committed, and at last a
+/// page that is empty.
 #[test]
 fn a_call_takes_less_stack_than_is_promised() {
     let half_taken = Refusal::GenerationFull.number();
@@ -208,6 +209,12 @@ fn a_call_takes_less_stack_than_is_promised() {
     assert_eq!(lane.home(), 251);
     assert_eq!(call!(&mut lane, lane_start), 0);
     assert_eq!(lane.home(), 251);
+
+    // The page is passed over, and its pot goes home.
+    assert_eq!(lane.write(lane.oid), 0);
+    assert_eq!(lane.rescind(lane.oid), 0);
+    lane.snapshot();
+    assert_eq!(lane.home(), 1);
 
     // SAFETY: it is lent nothing.
     let version = measure(|| unsafe { lane_version() });
