@@ -1,8 +1,8 @@
 -- Advance keeps its promise: which write is due, told by the record's numbers.
 -- Assumes nothing.
+use lib.Dec.{ltb, eqb}
 use Prim.Native.Nat.{ℕ, _≤_, _<_}
 use borrow.Author.Tests.{lt-ltb, le-ltb, eq-eqb, ne-eqb}
-use lib.Dec.{ltb, eqb}
 use lib.ListN.{length}
 use mathlib.Core.Bool.{Bool, true, false, cond}
 use mathlib.Core.List.{List, []}
@@ -12,24 +12,24 @@ use mathlib.Core.Path.{_≡_, refl, ap, sym, _∙_, subst}
 use native.Mathlib.Omega.{arith}
 use Rattle.card.proofs.DirectoryLaws.{entries-length}
 use Rattle.card.proofs.QuestionLaws.{none-asked, asked-yes, asked-no}
+use Rattle.card.proofs.Test.{byTest}
 use Rattle.card.specs.Directory.{entriesOf}
 use Rattle.card.specs.Question.{firstNo}
 use Rattle.card.specs.Ring.{dirBlocks}
 use Rattle.frames.proofs.KeepLaws.{kept-refused, kept-done, done-tells}
-use Rattle.frames.proofs.ReadyLaws.{common-passed, common-refused, ready}
+use Rattle.frames.proofs.ReadyLaws.{common-passed, ready}
 use Rattle.frames.specs.Promise.{lent, commonAsks, advance, refused, wrote, asks, advanceAnswer, advanceWrite, advanced, doneAnswer, doneWrite, after, FrameKept, passing, FrameAnswer}
 use Rattle.frames.specs.Parts.{WriteDone, StepDone}
 use Rattle.frames.specs.declared.answer.Wrote.{Wrote}
 use Rattle.record.proofs.Held.{Held}
 use Rattle.record.proofs.SoundLaws.{notes-length, queue-length, phase-owed}
+use Rattle.record.specs.Holds.{holdsTogether}
 use Rattle.record.specs.Meaning.{waits, notesOf, phaseOf, stateOf}
 use Rattle.record.specs.declared.store.Store.{Store}
 use Rattle.recovery.specs.Questions.{given, advanceAsks}
 use Rattle.recovery.specs.Step.{Kind, page, directory, trailer, migration, header, flush, kindWrite, kindPut, afterKind, migrationDue, advanceDue, migrating}
 use Rattle.recovery.specs.State.{isOwed, isFlushed, State, entryCount}
 use Rattle.recovery.specs.Write.{BlockWrite, putDown}
-use Rattle.record.specs.Holds.{holdsTogether}
-use Rattle.card.proofs.Test.{byTest}
 
 module _ (s : Store) (m c : List ℕ) where
   module _ (passed : firstNo (commonAsks s (length m) (length c)) ≡ 0) where

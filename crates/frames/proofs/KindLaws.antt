@@ -25,6 +25,7 @@ use Rattle.card.specs.declared.directory.Directory.{Directory}
 use Rattle.frames.proofs.ReadyLaws.{firsts}
 use Rattle.frames.proofs.RisingLaws.{dir-inside}
 use Rattle.frames.specs.Parts.{Sorted, KindDone, StepDone}
+use Rattle.frames.specs.Promise.{passing}
 use Rattle.record.proofs.Held.{Held, together, bounds}
 use Rattle.record.proofs.NoneLaws.{NoChange, none-means, none-size, none-waits}
 use Rattle.record.proofs.SoundLaws.{notes-length, ordered, listed-home, queue-length, entry-inside}
@@ -42,7 +43,6 @@ use Rattle.recovery.specs.Directory.{downEntries, dirOf}
 use Rattle.recovery.specs.Sound.{Home}
 use Rattle.recovery.specs.State.{directoryOf, empty, owed}
 use Rattle.recovery.specs.Step.{Kind, directory, trailer, migration, header, flush, tailBytes, trailerBlockNo, nextMigration, kindWrite, afterKind}
-use Rattle.frames.specs.Promise.{passing}
 
 -- a write and the step on the record that goes with it
 pub kind-done : (k : Kind) (s t : Store) (to : ℕ) (bytes card end : List ℕ) → ((m : List ℕ) → kindWrite k (stateOf s m) card ≡ record { block = to; bytes = bytes })

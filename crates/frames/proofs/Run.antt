@@ -14,6 +14,7 @@ use Rattle.card.specs.Header.{headerOn}
 use Rattle.card.specs.Question.{firstNo, headerRanges}
 use Rattle.frames.specs.Promise.{Lent, lent, meaningOf, common, FrameCall, start, change, snapshot, pageOut, advance, FrameAnswer, refused, done, wrote, outcome, FrameKept, Loads, LoadsCommitted}
 use Rattle.record.specs.Meaning.{zeroStore}
+use Rattle.recovery.proofs.Follows.{Passed}
 use Rattle.recovery.specs.Book.{FrameBook, bookChange, bookSnapshot, bookStart, bookWrote, keptBefore, bookCut, WholeFrame, Needs, Brings}
 use Rattle.recovery.specs.Contents.{Contents}
 use Rattle.recovery.specs.Questions.{startAsks}
@@ -21,7 +22,6 @@ use Rattle.recovery.specs.Sound.{Sound}
 use Rattle.recovery.specs.State.{readFrame}
 use Rattle.recovery.specs.Step.{kindDrive, startState}
 use Rattle.recovery.specs.Write.{BlockWrite, Drive, seen, settled, written, Spoilt, Cut, ReachedIs}
-use Rattle.recovery.proofs.Follows.{Passed}
 
 -- the drive, what is held between calls (nothing before the first start and after a cut), the book of frames, and
 -- what was kept before a header write that is not flushed

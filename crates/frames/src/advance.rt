@@ -6,16 +6,16 @@ use super::answer::Advanced;
 use super::kind;
 use super::page_out;
 use record::store::Store;
-ghost use mathlib.Core.Path.{_≡_};
 ghost use mathlib.Core.Bool.{true};
+ghost use mathlib.Core.Path.{_≡_};
 ghost use mathlib.Core.Logic.{_≢_};
 ghost use Prim.Native.Nat.{_≤_, _<_};
 ghost use lib.ListN.{length};
 ghost use Rattle.card.specs.Question.{firstNo};
 ghost use Rattle.card.specs.Ring.{dirBlocks};
+ghost use Rattle.frames.specs.Parts.{MigratingIs};
 ghost use Rattle.record.specs.Holds.{holdsTogether};
 ghost use Rattle.record.specs.Meaning.{waits};
-ghost use Rattle.frames.specs.Parts.{MigratingIs};
 ghost use Rattle.frames.specs.Promise.{commonAsks, advance, passing, lent, reported, FrameKept};
 
 // Has advance come to migration? Until then none is passed over.

@@ -23,6 +23,7 @@ use Rattle.pages.proofs.LedgerLaws.{nonePending, someChange}
 use Rattle.pages.proofs.PlainLaws.{InStep, same-asks, agrees}
 use Rattle.pages.proofs.Represents.{accepted-full}
 use Rattle.pages.specs.Demand2.{plainAnswers, plainCard, NoStart, Calls, finished, next, Demand2}
+use Rattle.pages.specs.Needed.{needed, allNeeded}
 use Rattle.pages.specs.Plain.{Plain, blank, plainOf, plainAsks, PlainOutcome, answers, plainDone, plainDoes}
 use Rattle.pages.specs.Promise.{Call, start, key, read, write, rescind, snapshot, pageOut, advance, Answer, refused, done, atPlace, asks, frameCall, refusal, Kept}
 use Rattle.record.specs.Meaning.{zeroStore}
@@ -33,7 +34,6 @@ use Rattle.recovery.specs.State.{State, empty, readFrame}
 use Rattle.recovery.specs.Step.{startState}
 use Rattle.recovery.specs.Write.{BlockWrite, putDown}
 use Rattle.frames.specs.Promise as frames
-use Rattle.pages.specs.Needed.{needed, allNeeded}
 
 later : (c : Call) → ((m : List ℕ) → c ≡ start m → ⊥) → Later c
 later (start m) h = h m refl

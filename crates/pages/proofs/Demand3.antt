@@ -26,6 +26,7 @@ use Rattle.pages.proofs.FormatLaws.{format-area, format-ranges, format-
 use Rattle.pages.proofs.RunLaws.{Beside, or-false, serves, address-is, page-shown, called-beside, run-beside, spoilt-run, needs}
 use Rattle.pages.specs.Book.{Book, Event, formatBook, isDone, isFlush, told, bookAfter}
 use Rattle.pages.specs.Demand3.{World, Run, OfRanges, Shows, Demand3, Demand3Spoilt}
+use Rattle.pages.specs.Needed.{allNeeded}
 use Rattle.pages.specs.Page.{Page, emptyPage, pageOf, formatCard}
 use Rattle.pages.specs.Promise.{start, key, read, Answer, done, counted, filled, addressOf, atPlace, presentFrames, asks, frameCall, doneAnswer, outcome, Kept, rangesIn, formatAsks, FormatKept}
 use Rattle.record.specs.Meaning.{zeroStore}
@@ -36,7 +37,6 @@ use Rattle.recovery.specs.Step.{startState}
 use Rattle.recovery.specs.Write.{Drive, putAll, seen, Left, Spoilt}
 use Rattle.frames.proofs.KeepLaws as keep
 use Rattle.frames.specs.Promise as frames
-use Rattle.pages.specs.Needed.{allNeeded}
 
 -- the place of an OID by a card's header
 abbrev placeOn : List ℕ → ℕ → Lookup

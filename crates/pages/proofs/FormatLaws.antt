@@ -29,6 +29,7 @@ use Rattle.card.specs.declared.range.Address.{Address}
 use Rattle.card.specs.declared.range.Lookup.the-variants.{Located}
 use Rattle.frames.specs.Promise.{numbered}
 use Rattle.pages.proofs.PotsLaws.{putPots-length, putPots-other, putPots-fresh}
+use Rattle.pages.specs.Needed.{allNeeded}
 use Rattle.pages.specs.Page.{emptyPage, pageBytes, pageOf, putPots, formatCard}
 use Rattle.pages.specs.Promise.{done, answered, rangesIn, formatAsks, FormatKept}
 use Rattle.recovery.proofs.Follows.{Stored}
@@ -39,7 +40,6 @@ use Rattle.recovery.specs.Questions.{startAsks}
 use Rattle.recovery.specs.State.{readFrame}
 use Rattle.recovery.specs.Step.{startState}
 use Rattle.frames.specs.Promise as frames
-use Rattle.pages.specs.Needed.{allNeeded}
 
 -- ---- the formatted card
 

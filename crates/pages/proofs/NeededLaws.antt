@@ -1,9 +1,9 @@
 -- What is needed is told by the pots, which are always needed; and a write or a rescind hands down every frame that
 -- it makes needed.
 -- Assumes nothing.
-use Prim.Native.Nat.{ℕ, suc, _+_, _-_, _*_, _/_, _%_, _≤_, _<_}
-use borrow.Author.Tests.{ltb-true, ltb-false, lt-ltb, le-ltb, eqb-true, eqb-false, eq-eqb, ne-eqb}
-use lib.Dec.{ltb, eqb}
+use Prim.Native.Nat.{ℕ, _+_, _-_, _*_, _/_, _%_, _≤_, _<_}
+use borrow.Author.Tests.{ltb-true, lt-ltb, le-ltb, eq-eqb, ne-eqb}
+use lib.Dec.{ltb}
 use lib.ListN.{length}
 use mathlib.Core.Bool.{Bool, true, false, cond, not, false≢true}
 use mathlib.Core.List.{List, [], _∷_}
@@ -11,19 +11,18 @@ use mathlib.Core.Logic.{_≢_}
 use mathlib.Core.Path.{_≡_, refl, ap, sym, _∙_}
 use native.Mathlib.Decide.{ℕ-discrete}
 use native.Mathlib.Omega.{arith}
-use Rattle.card.proofs.AddressLaws.{Within, lies, PlacesApart, Found, here, later, found}
-use Rattle.card.specs.Bytes.{All}
+use Rattle.card.proofs.AddressLaws.{lies, PlacesApart, Found, here, later, found}
 use Rattle.card.specs.Pot.{countAt}
 use Rattle.card.specs.Range.{Range, rangeBlocks, addressIn, locate, allBlocks}
 use Rattle.card.specs.declared.range.Address.{Address}
 use Rattle.card.specs.declared.range.Lookup.{Lookup}
 use Rattle.card.specs.declared.range.Lookup.the-variants.{Located, Outside}
 use Rattle.pages.proofs.RowLaws.{rescind-row, rescind-other, write-other}
-use Rattle.pages.specs.Needed.{pageIn, pageAt, neededAt, needed}
+use Rattle.pages.specs.Needed.{pageIn, pageAt, needed}
 use Rattle.pages.specs.Page.{flagged, writeFrames, rescindFrames}
 use Rattle.pages.specs.Plain.{Row, rowOf}
 use Rattle.recovery.specs.Book.{applyChanges, Brings}
-use Rattle.recovery.specs.Contents.{Contents, FrameBytes}
+use Rattle.recovery.specs.Contents.{Contents}
 
 pub not-true : (t : Bool) → not t ≡ true → t ≡ false
 not-true true h = absurd (false≢true h)

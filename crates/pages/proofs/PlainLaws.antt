@@ -24,27 +24,27 @@ use Rattle.frames.specs.Promise.{Lent, meaningOf, common, FrameCall, past}
 use Rattle.pages.proofs.AnswerLaws.{Later, ownAsks, found-place, write-passed, rescind-passed}
 use Rattle.pages.proofs.BlankLaws.{blankFrames, blank-change, blank-snapshot, blank-pageOut, blank-kind}
 use Rattle.pages.proofs.LedgerLaws.{write-touches, rescind-touches, touches-apart, nonePending, someChange, change-notes, out-keeps, kind-current, kind-marked, kind-phase, out-phase, room-is, due-is, advance-is, waiting-is, out-is, kind-is, passed-is, past-is}
+use Rattle.pages.proofs.NeededLaws.{page-at, at-tells, pot-needed, page-needed, needed-same, write-brings, rescind-brings, not-true, not-false}
 use Rattle.pages.proofs.Represents.{write-whole, rescind-whole, write-same, rescind-same, AsTable, Long, changes-long, in-p, updated}
+use Rattle.pages.proofs.Represents as represents
 use Rattle.pages.proofs.RowLaws.{rescind-row, rescind-other, write-row, write-other}
 use Rattle.pages.specs.Book.{update, written, rescinded}
+use Rattle.pages.specs.Needed.{pageAt, needed}
 use Rattle.pages.specs.Page.{Page, flagged, pageBytes, pageOf, writeFrames, rescindFrames}
 use Rattle.pages.specs.Plain.{Row, rowOf, Plain, blank, plainAddress, touched, writeTouches, rescindTouches, isNone, plainAsks, plainKind, PlainOutcome, answers, plainWrite, plainRescind, plainAdvance, plainDone, plainOver, plainPast, ledgerOf}
 use Rattle.pages.specs.Promise.{Call, start, key, read, write, rescind, snapshot, pageOut, advance, Answer, done, counted, filled, wrote, answered, addressOf, atPlace, presentFrames, presentCount, writeChanges, rescindChanges, placed, asks, frameCall, doneAnswer, committedFrames, over, passedOf}
 use Rattle.recovery.proofs.Follows.{Follows}
+use Rattle.recovery.proofs.FollowsStep.{follows-pass}
 use Rattle.recovery.proofs.FrameTheorem.{reads-present, reads-committed}
+use Rattle.recovery.proofs.SumLaws.{passed-over, passed-within, passed-next, passed-more, passed-owed}
 use Rattle.recovery.specs.Book.{FrameBook, applyChanges, bookChange, bookWrote, WholeFrame, Brings}
 use Rattle.recovery.specs.Contents.{Contents, FrameBytes}
 use Rattle.recovery.specs.Questions.{heldAsks, roomAsks, snapshotAsks, given, advanceAsks}
-use Rattle.recovery.specs.State.{entryCount, empty, State, isOwed}
+use Rattle.recovery.specs.State.{entryCount, empty, State}
 use Rattle.recovery.specs.Step.{changeFrames, afterChange, afterSnapshot, Kind, page, directory, trailer, migration, header, flush, kindWrite, kindPut, advanceDue, migrating, nextMigration, passTo}
 use Rattle.recovery.specs.Sums.{roomSums, passedTo, remainingWrites, firstOf, advanceSums}
 use Rattle.recovery.specs.Write.{BlockWrite}
 use Rattle.frames.specs.Promise as frames
-use Rattle.pages.proofs.Represents as represents
-use Rattle.pages.specs.Needed.{pageAt, needed}
-use Rattle.pages.proofs.NeededLaws.{page-at, at-tells, pot-needed, page-needed, needed-same, write-brings, rescind-brings, not-true, not-false}
-use Rattle.recovery.proofs.SumLaws.{passed-over, passed-within, passed-next, passed-more, passed-owed}
-use Rattle.recovery.proofs.FollowsStep.{follows-pass}
 
 placed-same : (a : Lookup) (f h : Address → List Question) → ((p : Address) → a ≡ Located p → f p ≡ h p) → placed a f ≡ placed a h
 unfolding atPlace

@@ -4,7 +4,7 @@ use Prim.Native.Nat.{ℕ, _+_, _/_, _≤_, _<_}
 use borrow.Author.Tests.{eqb-true}
 use lib.Dec.{eqb}
 use lib.ListN.{length}
-use mathlib.Core.Bool.{Bool, true, false, cond, _||_, not, false≢true}
+use mathlib.Core.Bool.{Bool, true, false, cond, _||_, not}
 use mathlib.Core.List.{List}
 use mathlib.Core.Logic.{_≢_, _⊎_, inl, inr, ⊎-elim}
 use mathlib.Core.Option.{Option, none, some}
@@ -30,20 +30,20 @@ use Rattle.frames.specs.Promise as frames
 use Rattle.frames.specs.Promise.{Lent, FrameAnswer, meaningOf}
 use Rattle.pages.proofs.AnswerLaws.{asked-both, write-passed, rescind-passed, frames-asked, block-done, block-none, kept-done, kept-refused, lowered}
 use Rattle.pages.proofs.BookLaws.{told-refused}
+use Rattle.pages.proofs.NeededLaws.{page-at, at-tells, pot-needed, page-needed, needed-same, write-brings, rescind-brings, not-true}
 use Rattle.pages.proofs.Represents.{write-whole, rescind-whole, write-same, rescind-same, accepted-full, SameBefore, Represents, represents-flushed, represents-cut, represents-start, represents-snapshot, represents-header, nothing-represents, in-p, pot-long, page-long, write-represents, rescind-represents, page-same}
 use Rattle.pages.specs.Book.{Table, Book, Event, called, update, presentTo, written as pageWritten, rescinded, headerReached, flushedBook, cutBook, isDone, isHeader, isFlush, told, bookAfter}
 use Rattle.pages.specs.Demand3.{World, lentTo, driveAfter, Step, calls, cutWithin, cutBetween, Run, ended, then}
+use Rattle.pages.specs.Needed.{pageAt, needed}
 use Rattle.pages.specs.Page.{Page, pageBytes, pageOf, writeFrames, rescindFrames, flagged}
 use Rattle.pages.specs.Promise.{Call, start, key, read, write, rescind, snapshot, pageOut, advance, Answer, refused, counted, filled, answered, addressOf, atPlace, presentFrames, presentCount, writeChanges, rescindChanges, asks, frameCall, doneAnswer, refusal, outcome, Kept, committedFrames, over, passedOf}
 use Rattle.recovery.proofs.DriveLaws.{seen-written, left-spoilt}
+use Rattle.recovery.proofs.SumLaws.{passed-over, passed-within, passed-more, passed-owed}
 use Rattle.recovery.specs.Book.{FrameBook, applyChanges, bookChange, bookCut, WholeFrame, Brings}
 use Rattle.recovery.specs.Contents.{Contents, FrameBytes}
 use Rattle.recovery.specs.Questions.{startAsks}
 use Rattle.recovery.specs.Step.{page, directory, trailer, migration, header, flush, nextMigration, passTo}
 use Rattle.recovery.specs.Write.{BlockWrite, Drive, putAll, seen, settled, written, Left, Spoilt, Cut, ReachedIs}
-use Rattle.pages.specs.Needed.{pageAt, needed}
-use Rattle.pages.proofs.NeededLaws.{page-at, at-tells, pot-needed, page-needed, needed-same, write-brings, rescind-brings, not-true}
-use Rattle.recovery.proofs.SumLaws.{passed-over, passed-within, passed-more, passed-owed}
 
 -- a call that is done writes the block that its frame call writes
 write-is : (c : Call) (l : Lent) → firstNo (asks c l) ≡ 0 → outcome c l .write ≡ frames.outcome (frameCall c l) l .write

@@ -15,18 +15,18 @@ use Rattle.card.specs.declared.range.Lookup.{Lookup}
 use Rattle.card.specs.declared.range.Lookup.the-variants.{Located, Outside}
 use Rattle.frames.specs.Promise as frames
 use Rattle.frames.specs.Promise.{Lent, meaningOf, common, Outcome, outcomeOf, Keeps, FrameCall, FrameAnswer, numbered, past}
+use Rattle.pages.specs.Needed.{needed}
 use Rattle.pages.specs.Page.{pageBytes, writeFrames, rescindFrames, formatCard}
 use Rattle.pages.specs.declared.answer.Count.{Count}
 use Rattle.pages.specs.declared.answer.Count.the-variants.{Present, Refused}
 use Rattle.pages.specs.declared.named.Named.{Named}
 use Rattle.record.specs.declared.store.Geometry.{Geometry}
+use Rattle.record.specs.declared.store.Store.{Store}
 use Rattle.recovery.specs.Contents.{Contents, FrameBytes}
 use Rattle.recovery.specs.Questions.{startAsks, roomAsks, snapshotAsks, pageOutAsks, advanceAsks}
 use Rattle.recovery.specs.State.{readFrame, committedFrame}
 use Rattle.recovery.specs.Step.{Kind}
-use Rattle.pages.specs.Needed.{needed}
 use Rattle.recovery.specs.Sums.{passedTo}
-use Rattle.record.specs.declared.store.Store.{Store}
 
 -- the calls but format, which stands apart; an OID and a count are a key. Start's memory is the one that it is lent
 pub data Call : Type 0 where

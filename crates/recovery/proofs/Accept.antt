@@ -27,11 +27,11 @@ use Rattle.card.specs.declared.directory.Entry.{Entry}
 use Rattle.recovery.proofs.Invariant.{Headed, Tail, Recoverable}
 use Rattle.recovery.proofs.SizeLaws.{quiet-size, empty-size}
 use Rattle.recovery.proofs.Sorted.{SortedGeneration, placesOf, countOf, sizeOf, sortedEmpty, trailerAt, sortedCommittedOn, recovered}
+use Rattle.recovery.specs.Book.{Needs}
 use Rattle.recovery.specs.Contents.{Contents, overlay, storedFrames}
 use Rattle.recovery.specs.Questions.{startAsks}
 use Rattle.recovery.specs.Sound.{Rising, Home, Between}
 use Rattle.recovery.specs.Step.{startCommitted}
-use Rattle.recovery.specs.Book.{Needs}
 
 -- entries that lie where they may, by rising frame, pass question 8
 pub entries-ok : (blocks area first p low : ℕ) (es : List Entry) → All (λ e. low < e .frame) es → All (Home area blocks) es → All (Between area first 0 p) es → Rising es

@@ -17,6 +17,7 @@ use Rattle.card.specs.Question.{firstNo}
 use Rattle.card.specs.Range.{Range}
 use Rattle.card.specs.Ring.{ringAt}
 use Rattle.recovery.proofs.Calls.{call-change, call-mark}
+use Rattle.recovery.proofs.ContentsLaws.{all-on}
 use Rattle.recovery.proofs.Follows.{Follows, AllDown, empty-ordered, sorted-empty, same-committed, Facts, FactsOf, due-facts, size-pending, size-current, count-pending, has-room, no-waiting, all-named, tail-below, Passed}
 use Rattle.recovery.proofs.Invariant.{Invariant}
 use Rattle.recovery.proofs.OrderedLaws.{sorted-out, oldest-is, out-ordered, long-waiting, same-size, change-many, some-waiting}
@@ -33,7 +34,6 @@ use Rattle.recovery.specs.Sound.{Ordered}
 use Rattle.recovery.specs.State.{empty, State, entryCount, size, directoryOf, Phase, writing, flushed, owed, isOwed, isFlushed}
 use Rattle.recovery.specs.Step.{pendingTo, currentTo, changeFrames, afterChange, afterSnapshot, Kind, page, directory, trailer, migration, header, flush, outWrite, outOf, tailBytes, trailerBlockNo, nextMigration, kindWrite, kindPut, afterFlush, afterKind, advanceDue, pageOutWrite, afterPageOut, passTo}
 use Rattle.recovery.specs.Write.{BlockWrite, putDown}
-use Rattle.recovery.proofs.ContentsLaws.{all-on}
 
 -- the sorted form of a kind: its write, and the state after it
 abbrev pub sortedPut : Kind → Sorted → List ℕ → Option BlockWrite

@@ -21,9 +21,9 @@ use Rattle.recovery.proofs.ContentsLaws.{overlay-base, overlay-hides, s
 use Rattle.recovery.proofs.Invariant.{Tail, Recoverable}
 use Rattle.recovery.proofs.SizeLaws.{quiet-size, pagesDown-below}
 use Rattle.recovery.proofs.Sorted.{Without, SortedGeneration, sizeOf, trailerAt}
+use Rattle.recovery.specs.Book.{Needs}
 use Rattle.recovery.specs.Contents.{Contents, overlay, storedFrames}
 use Rattle.recovery.specs.Sound.{Between}
-use Rattle.recovery.specs.Book.{Needs}
 
 -- where a write does no harm to the committed generation g
 pub data Harmless (blocks area : ℕ) (g : SortedGeneration) (n : ℕ) : Type 0 where

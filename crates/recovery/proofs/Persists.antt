@@ -39,7 +39,7 @@ use Rattle.recovery.proofs.StepTail.{harmless-D, long-D, harmless-T, lo
 use Rattle.recovery.specs.Book.{FrameBook, markedOr, bookChange, bookSnapshot, bookStart, bookWrote, keptBefore, bookCut, WholeFrame, Needs, Brings}
 use Rattle.recovery.specs.Contents.{Contents, FrameBytes}
 use Rattle.recovery.specs.Questions.{roomAsks, snapshotAsks, pageOutAsks}
-use Rattle.recovery.specs.State.{State, directoryOf, flushed, owed, isOwed, isFlushed}
+use Rattle.recovery.specs.State.{State, directoryOf, flushed, isOwed, isFlushed}
 use Rattle.recovery.specs.Step.{afterChange, afterSnapshot, Kind, page, directory, trailer, migration, header, flush, outWrite, tailBytes, trailerBlockNo, nextMigration, kindWrite, kindPut, kindDrive, afterKind, advanceDue, pageOutWrite, afterPageOut, startState, passTo}
 use Rattle.recovery.specs.Write.{BlockWrite, putDown, Drive, putAll, seen, settled, written, Spoilt, Cut, HeaderIs, Reached, ReachedIs}
 

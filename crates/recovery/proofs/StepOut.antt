@@ -14,7 +14,7 @@ use Rattle.recovery.proofs.Invariant.{Invariant}
 use Rattle.recovery.proofs.SizeLaws.{pagedOut-count, pagedOut-size, pages-below, pagesDown-below}
 use Rattle.recovery.proofs.Sorted.{placesOf, countOf, sizeOf, Sorted, oldest, pendingOut, currentOut, pagedOut, sortedWrite, cardAfter, sortedAfter}
 use Rattle.recovery.proofs.Writes.{pending-place, spot-in, spot-at, spot-harmless, spot-recoverable, spot-same, spot-storedFrames, spot-migrated, spot-tailDown}
-use Rattle.recovery.specs.Book.{FrameBook, markedOr, Needs}
+use Rattle.recovery.specs.Book.{FrameBook, Needs}
 
 pub none-tailDown : {needed : Needs} (blocks : ℕ) (s : Sorted) (c : List ℕ) (b : FrameBook) → Invariant needed blocks s c b → 0 < length (s .pending .waiting) → s .tailDown ≡ 0
 none-tailDown blocks s c b i h = go (s .tailDown) refl

@@ -1,16 +1,16 @@
 -- The questions are the plain sums, and the write that is due is the first that remains.
 -- Assumes nothing.
+use lib.Seq.{getD-drop}
+use native.Mathlib.Nat.{add-zero}
 use Prim.Native.Nat.{ℕ, zero, suc, _+_, _-_, _≤_, _<_}
 use borrow.Author.Tests.{ltb-true, ltb-false, eqb-true, eqb-false, lt-ltb, le-ltb, eq-eqb, ne-eqb}
 use lib.Dec.{ltb, eqb}
 use lib.ListN.{length, replicate, drop, getD, length-append, length-set, length-drop}
-use lib.Seq.{getD-drop}
 use mathlib.Core.Bool.{Bool, true, false, cond, not, _&&_, _||_}
 use mathlib.Core.List.{List, [], _∷_, _++_}
 use mathlib.Core.Logic.{_≢_}
 use mathlib.Core.Option.{Option, none, some}
 use mathlib.Core.Path.{_≡_, refl, ap, sym, _∙_, subst}
-use native.Mathlib.Nat.{add-zero}
 use native.Mathlib.Omega.{arith}
 use Rattle.card.proofs.Test.{byTest}
 use Rattle.card.specs.Bytes.{All}

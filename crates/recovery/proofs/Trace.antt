@@ -1,9 +1,9 @@
 -- The whole run of document 01 with document 02's flushes (#110), of the definitions, and two more snapshots behind
 -- it: area 8, one range of 1 page (home block 10, its pot 9), 11 blocks, memory of 4 frames.
 -- Assumes nothing.
-use Prim.Native.Nat.{ℕ, zero, suc}
 use lib.Dec.{eqb}
 use mathlib.Core.Bool.{Bool}
+use Prim.Native.Nat.{ℕ, zero, suc}
 use mathlib.Core.List.{List, [], _∷_}
 use mathlib.Core.Option.{Option, none, some}
 use mathlib.Core.Path.{_≡_, refl}

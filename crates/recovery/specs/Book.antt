@@ -1,10 +1,10 @@
 -- The book of frames (document 01, 'The book', for the frame layer's own calls).
 -- Assumes nothing.
+use mathlib.Core.Logic.{_≢_}
 use Prim.Native.Nat.{ℕ, _<_}
 use lib.ListN.{length}
 use mathlib.Core.Bool.{Bool, cond, true}
 use mathlib.Core.List.{List, [], _∷_}
-use mathlib.Core.Logic.{_≢_}
 use mathlib.Core.Option.{Option, none, some, Option·getD}
 use mathlib.Core.Path.{_≡_}
 use Rattle.card.specs.Bytes.{All}

@@ -1,9 +1,9 @@
 -- `frames::advance::advance` meets its contract.
 -- Assumes nothing.
-use Prim.Native.Nat.{ℕ}
 use borrow.Author.Needs.{needs}
 use denote.Ref.{now}
 use mathlib.Core.Path.{sym, subst}
+use Prim.Native.Nat.{ℕ}
 use Rattle.frames.proofs.DueLaws.{advance-flushed, due-owed}
 use Rattle.frames.proofs.ReadyLaws.{ready}
 use Rattle.frames.specs.Promise.{lent, advance, wrote, reported, FrameKept}

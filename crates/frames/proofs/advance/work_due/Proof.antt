@@ -1,6 +1,5 @@
 -- `frames::advance::work_due` meets its contract.
 -- Assumes nothing.
-use Prim.Native.Nat.{ℕ}
 use borrow.Author.Needs.{needs}
 use denote.Ref.{now}
 use lib.ListN.{length}
@@ -8,6 +7,7 @@ use mathlib.Core.Bool.{true, false}
 use mathlib.Core.List.{List}
 use mathlib.Core.Path.{_≡_, sym, _∙_}
 use native.Mathlib.Omega.{arith}
+use Prim.Native.Nat.{ℕ}
 use Rattle.card.specs.Question.{firstNo}
 use Rattle.frames.proofs.DueLaws.{commit-given, idle-given, pass-common, pass-kept, pass-none, not-owed}
 use Rattle.frames.proofs.ReadyLaws.{ready}

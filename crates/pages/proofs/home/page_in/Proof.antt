@@ -2,7 +2,6 @@
 -- Assumes nothing.
 use borrow.Author.Needs.{needs}
 use mathlib.Core.Path.{sym}
-use native.Mathlib.Omega.{arith}
 use Rattle.pages.proofs.NeededLaws.{in-pot, in-page}
 use Rattle.pages.proofs.home.page_in.Statement.{statement}
 use Rattle.pages.proofs.home.page_in.Tie as tie
