@@ -81,7 +81,7 @@ module _ (blocks area : ℕ) (ranges : List Range) (v : Drive) (whole : length (
     -- the header as it is seen
     cut-new : {needed : Needs} (commit : ℕ) (g : SortedGeneration) (kept : Contents) → Recoverable needed blocks area ranges commit g (seen v) kept → Apart blocks area g (v .since) → blockAt c′ 0 ≡ blockAt (seen v) 0
         → Stored needed blocks area ranges c′ kept
-    cut-new commit g kept k apart e = (commit, g, harmless-left blocks area ranges commit g (seen v) kept k c′ (cut-long ∙ sym seen-long) e (cut-other g apart))
+    cut-new commit g kept k apart e = (commit, g, harmless-left blocks area ranges commit g (seen v) kept k c′ (cut-long ∙ sym seen-long) e (λ n low bad need. cut-other g apart n low bad))
 
     -- the header of the last flush
     cut-old : {needed : Needs} (commit : ℕ) (g : SortedGeneration) (kept : Contents) → Recoverable needed blocks area ranges commit g (oldHead v) kept → Apart blocks area g (v .since) → blockAt c′ 0 ≡ blockAt (v .flushed) 0
@@ -94,7 +94,7 @@ module _ (blocks area : ℕ) (ranges : List Range) (v : Drive) (whole : length (
           g,
           harmless-left blocks area ranges commit g (oldHead v) kept k c′ (cut-long ∙ sym (put-length (seen v) 0 (blockAt (v .flushed) 0) long fits ∙ seen-long))
               (e ∙ sym (put-same (seen v) 0 (blockAt (v .flushed) 0) long fits))
-              (λ n low bad. cut-other g apart n low bad ∙ sym (put-other (seen v) 0 (blockAt (v .flushed) 0) long fits n (omega (arith, low)))),
+              (λ n low bad need. cut-other g apart n low bad ∙ sym (put-other (seen v) 0 (blockAt (v .flushed) 0) long fits n (omega (arith, low)))),
         )
 
 pub durable-cut : {needed : Needs} (blocks area : ℕ) (ranges : List Range) (commit : ℕ) (g : SortedGeneration) (v : Drive) (kept : Contents) (before : Option Contents) → Durable needed blocks area ranges commit g v kept before
@@ -172,4 +172,4 @@ module _ {needed : Needs} (blocks area : ℕ) (ranges : List Range) (commit : �
           let fits₁ : 512 * 0 + 512 ≤ length c₁ = omega (arith, c₁-long, d .card .whole, d .card .many) in
           rw (seen-written v w)
           (harmless-left blocks area ranges commit g c kept (d .card) (putBlock c₁ 0 h) (put-length c₁ 0 h h-long fits₁ ∙ c₁-long) (put-same c₁ 0 h h-long fits₁ ∙ sym old)
-          (λ n low bad. put-other c₁ 0 h h-long fits₁ n (omega (arith, low)) ∙ put-other c (w .block) (w .bytes) long fits n (omega (arith, low, zero))))
+          (λ n low bad need. put-other c₁ 0 h h-long fits₁ n (omega (arith, low)) ∙ put-other c (w .block) (w .bytes) long fits n (omega (arith, low, zero))))

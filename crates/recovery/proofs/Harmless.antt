@@ -1,8 +1,9 @@
--- Blocks outside the committed generation, and the homes of frames that it names, may hold any bytes: what a started
--- card shows stays.
+-- Blocks outside the committed generation, the homes of frames that it names, and the homes of frames that are not
+-- needed may hold any bytes: what a started card shows of the needed frames stays.
 -- Assumes nothing.
 use Prim.Native.Nat.{ℕ, _+_, _*_, _≤_, _<_}
 use lib.ListN.{length}
+use mathlib.Core.Bool.{true, false, false≢true}
 use mathlib.Core.List.{List, [], _∷_}
 use mathlib.Core.Logic.{_≢_}
 use mathlib.Core.Path.{_≡_, refl, ap, sym, _∙_, subst}
@@ -59,23 +60,25 @@ absent-or-not f (e ∷ es) = go (ℕ-discrete f (e .frame)) (absent-or-not f es)
     go (no d) (yes h) = yes (d, h)
     go (no d) (no n) = no (λ h. n (h .1))
 
--- ---- another card that differs in such blocks alone
+-- ---- another card that differs only in such blocks and in the homes of frames that are not needed
 
 module _ {needed : Needs} (blocks area : ℕ) (ranges : List Range) (commit : ℕ) (g : SortedGeneration) (c : List ℕ) (kept : Contents) (k : Recoverable needed blocks area ranges commit g c kept)
-    (c′ : List ℕ) (long : length c′ ≡ length c) (head-same : blockAt c′ 0 ≡ blockAt c 0) (other : (n : ℕ) → 1 ≤ n → (Harmless blocks area g n → ⊥) → blockAt c′ n ≡ blockAt c n) where
+    (c′ : List ℕ) (long : length c′ ≡ length c) (head-same : blockAt c′ 0 ≡ blockAt c 0)
+    (other : (n : ℕ) → 1 ≤ n → (Harmless blocks area g n → ⊥) → (area < n → needed kept n ≡ true) → blockAt c′ n ≡ blockAt c n) where
   -- what the committed directory names stands
   committed-same : storedFrames c′ (g .dir) ≡ storedFrames c (g .dir)
   committed-same = storedFrames-same c c′ (g .dir)
       (all-map (Between area (g .first) 0 (g .pagesDown)) (λ e. blockAt c′ (e .block) ≡ blockAt c (e .block)) (g .dir)
-      (λ e h. other (e .block) (h .0) (λ bad. harmless-entry blocks area g (e .block) (pagesDown-below g (k .any)) bad e h refl)) (k .inside))
+      (λ e h. other (e .block) (h .0) (λ bad. harmless-entry blocks area g (e .block) (pagesDown-below g (k .any)) bad e h refl) (λ a. absurd (omega (arith, a, h .1)))) (k .inside))
 
   tail-same : Tail c area commit g → Tail c′ area commit g
   unfolding trailerAt
   tail-same t =
       let long-size : sizeOf g ≡ g .pagesDown + dirBlocks (length (g .dir)) + 1 = quiet-size g (k .quiet) (t .some-named) in
       let block : (i : ℕ) → i < sizeOf g → blockAt c′ (ringAt area (g .first) i) ≡ blockAt c (ringAt area (g .first) i) =
-      λ i h. other (ringAt area (g .first) i) (on-in area (g .first) (k .low) (k .high) i (omega (arith, k .fits)) .0)
-      (λ bad. harmless-apart blocks area g (ringAt area (g .first) i) (k .low) (k .high) (k .fits) bad i h refl) in
+      λ i h. let in-area = on-in area (g .first) (k .low) (k .high) i (omega (arith, k .fits)) in
+      other (ringAt area (g .first) i) (in-area .0)
+      (λ bad. harmless-apart blocks area g (ringAt area (g .first) i) (k .low) (k .high) (k .fits) bad i h refl) (λ a. absurd (omega (arith, a, in-area .1))) in
       let last : blockAt c′ (trailerAt area g) ≡ blockAt c (trailerAt area g) = block (g .pagesDown + dirBlocks (length (g .dir))) (omega arith) in
       record {
         some-named = t .some-named;
@@ -84,13 +87,13 @@ module _ {needed : Needs} (blocks area : ℕ) (ranges : List Range) (commit : �
         dir-is = readDir-same c c′ area (g .first) (g .pagesDown) (length (g .dir)) (λ j h. block (g .pagesDown + j) (omega arith)) ∙ t .dir-is;
       }
 
-  same-view : (f : ℕ) → area < f → Dec (All (λ e. f ≢ e .frame) (g .dir)) → overlay (storedFrames c (g .dir)) (blockAt c′) f ≡ overlay (storedFrames c (g .dir)) (blockAt c) f
-  same-view f l (yes none) = overlay-base (storedFrames c (g .dir)) (blockAt c′) (blockAt c) f (other f (omega arith) (no-harm none))
+  same-view : (f : ℕ) → area < f → needed kept f ≡ true → Dec (All (λ e. f ≢ e .frame) (g .dir)) → overlay (storedFrames c (g .dir)) (blockAt c′) f ≡ overlay (storedFrames c (g .dir)) (blockAt c) f
+  same-view f l t (yes none) = overlay-base (storedFrames c (g .dir)) (blockAt c′) (blockAt c) f (other f (omega arith) (no-harm none) (λ a. t))
     where
       no-harm : All (λ e. f ≢ e .frame) (g .dir) → Harmless blocks area g f → ⊥
       no-harm a (free p q r) = omega arith
       no-harm a (moving p q r) = r a
-  same-view f l (no some) = overlay-hides (storedFrames c (g .dir)) (blockAt c′) (blockAt c) f (λ w. some (without-storedFrames c f (g .dir) w))
+  same-view f l t (no some) = overlay-hides (storedFrames c (g .dir)) (blockAt c′) (blockAt c) f (λ w. some (without-storedFrames c f (g .dir) w))
 
   -- it shows what the first did
   pub harmless-left : Recoverable needed blocks area ranges commit g c′ kept
@@ -114,7 +117,7 @@ module _ {needed : Needs} (blocks area : ℕ) (ranges : List Range) (commit : �
     unset = λ e. rw head-same (k .unset e);
     fresh = k .fresh;
     there = λ h. tail-same (k .there h);
-    view = λ f l h t. rw committed-same (same-view f l (absent-or-not f (g .dir)) ∙ k .view f l h t);
+    view = λ f l h t. rw committed-same (same-view f l t (absent-or-not f (g .dir)) ∙ k .view f l h t);
   }
 
 -- one such block written, whatever bytes it has
@@ -124,4 +127,12 @@ harmless-write blocks area ranges commit g c kept k n harmless x long =
     let low = harmless-low blocks area g n (k .home) harmless in
     let fit : 512 * n + 512 ≤ length c = omega (arith, low, k .whole) in
     harmless-left blocks area ranges commit g c kept k (putBlock c n x) (put-length c n x long fit) (put-other c n x long fit 0 (omega (arith, low)))
-    (λ m h bad. put-other c n x long fit m (λ e. bad (subst (Harmless blocks area g) (sym e) harmless)))
+    (λ m h bad need. put-other c n x long fit m (λ e. bad (subst (Harmless blocks area g) (sym e) harmless)))
+
+-- the home of a frame that is not needed written, whatever bytes it has
+pub unneeded-write : {needed : Needs} (blocks area : ℕ) (ranges : List Range) (commit : ℕ) (g : SortedGeneration) (c : List ℕ) (kept : Contents) → Recoverable needed blocks area ranges commit g c kept
+    → (n : ℕ) → area < n → n < blocks → needed kept n ≡ false → (x : List ℕ) → length x ≡ 512 → Recoverable needed blocks area ranges commit g (putBlock c n x) kept
+unneeded-write {needed = needed} blocks area ranges commit g c kept k n low high empty x long =
+    let fit : 512 * n + 512 ≤ length c = omega (arith, high, k .whole) in
+    harmless-left blocks area ranges commit g c kept k (putBlock c n x) (put-length c n x long fit) (put-other c n x long fit 0 (omega (arith, low)))
+    (λ m h bad need. put-other c n x long fit m (λ e. false≢true (sym empty ∙ ap (needed kept) (sym e) ∙ need (omega (arith, low, e)))))
