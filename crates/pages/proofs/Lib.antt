@@ -4,6 +4,7 @@ pub mod RowLaws
 pub mod NeededLaws
 pub mod HomeLaws
 pub mod Represents
+pub mod EmptyHome
 pub mod PotsLaws
 pub mod FormatLaws
 pub mod NamedLaws

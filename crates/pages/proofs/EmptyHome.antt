@@ -1,0 +1,82 @@
+-- The home of an empty page, one whose flag is set, may hold any bytes (document 02, #104): start accepts the card and
+-- shows the same pages and counts, the empty page among them, with zeros.
+-- Assumes nothing.
+use Prim.Native.Nat.{ℕ, _+_, _/_, _<_}
+use lib.ListN.{length}
+use mathlib.Core.Bool.{true, not}
+use mathlib.Core.List.{List}
+use mathlib.Core.Option.{none}
+use mathlib.Core.Path.{_≡_, ap, _∙_}
+use native.Mathlib.Omega.{arith}
+use Rattle.card.proofs.AddressLaws.{Within}
+use Rattle.card.specs.Block.{blockAt, putBlock}
+use Rattle.card.specs.Bytes.{zeros}
+use Rattle.card.specs.Header.{headerOn}
+use Rattle.card.specs.Question.{firstNo, headerRanges}
+use Rattle.card.specs.Range.{Range, allBlocks, locate}
+use Rattle.card.specs.declared.range.Address.{Address}
+use Rattle.card.specs.declared.range.Lookup.the-variants.{Located}
+use Rattle.pages.proofs.NeededLaws.{oid-needed}
+use Rattle.pages.proofs.Represents.{accepted-full, in-p, page-same}
+use Rattle.pages.specs.Needed.{needed}
+use Rattle.pages.specs.Page.{Page, flagged, pageBytes, pageOf}
+use Rattle.recovery.proofs.Accept.{told}
+use Rattle.recovery.proofs.Follows.{Stored, Follows}
+use Rattle.recovery.proofs.FrameTheorem.{accepted-stored, stored-any, stored-accepts, stored-start, reads-present}
+use Rattle.recovery.specs.Book.{FrameBook, bookStart}
+use Rattle.recovery.specs.Contents.{Contents}
+use Rattle.recovery.specs.Questions.{startAsks}
+use Rattle.recovery.specs.State.{readFrame}
+use Rattle.recovery.specs.Step.{startState}
+
+-- what a start on the card shows of each frame
+abbrev pub shown : List ℕ → List ℕ → Contents
+shown m card = readFrame (startState m card) card
+
+module _ (m card : List ℕ) (accepted : firstNo (startAsks m card) ≡ 0) where
+  -- ---- the card's geometry
+
+  abbrev blocks : ℕ
+  blocks = length card / 512
+
+  abbrev area : ℕ
+  area = headerOn (blockAt card 0) .area
+
+  abbrev rs : List Range
+  rs = headerRanges (headerOn (blockAt card 0))
+
+  abbrev full : blocks ≡ 1 + area + allBlocks rs
+  full = accepted-full m card accepted
+
+  module _ (o : ℕ) (p : Address) (at-p : locate rs (1 + area) o ≡ Located p) (empty : flagged (shown m card) p ≡ true) (x : List ℕ) (long : length x ≡ 512) where
+    -- the card with other bytes at the empty page's home
+    abbrev other : List ℕ
+    other = putBlock card (p .page) x
+
+    other-stored : Stored (needed rs area) blocks area rs other (shown m card)
+    other-stored =
+        let inside : Within (1 + area) blocks p = in-p rs blocks area full o p at-p in
+        stored-any blocks area rs card (shown m card) (accepted-stored m card accepted) (p .page) (omega (arith, inside)) (omega (arith, inside))
+        (oid-needed rs area blocks full (shown m card) o p at-p .0 ∙ ap not empty) x long
+
+    -- what is needed is shown as it was
+    frame-same : (f : ℕ) → area < f → f < blocks → needed rs area (shown m card) f ≡ true → shown m other f ≡ shown m card f
+    frame-same f low high t =
+        let book : FrameBook = record { present = shown m card; marked = none; kept = shown m card } in
+        let follows : Follows (needed rs area) blocks area rs (startState m other) other (bookStart book) = stored-start blocks area rs other book other-stored m in
+        reads-present blocks area rs (startState m other) other (bookStart book) follows f low high t
+
+    same-pages : (u : ℕ) (q : Address) → locate rs (1 + area) u ≡ Located q → pageOf (shown m other) q ≡ pageOf (shown m card) q
+    same-pages u q at-q =
+        let inside : Within (1 + area) blocks q = in-p rs blocks area full u q at-q in
+        let needs = oid-needed rs area blocks full (shown m card) u q at-q in
+        page-same (shown m other) (shown m card) q (frame-same (q .pot) (omega (arith, inside)) (omega (arith, inside)) (needs .1))
+        (λ clear. frame-same (q .page) (omega (arith, inside)) (omega (arith, inside)) (needs .0 ∙ ap not clear))
+
+    -- THE LAW: whatever bytes stand at the home of an empty page, start accepts and shows the same pages and counts
+    pub any-home : (firstNo (startAsks m other) ≡ 0) × ((u : ℕ) (q : Address) → locate rs (1 + area) u ≡ Located q → pageOf (shown m other) q ≡ pageOf (shown m card) q)
+    any-home = (stored-accepts blocks area rs other (shown m card) other-stored m (told m card accepted .memory), same-pages)
+
+    -- so it shows zeros there
+    pub zeros-shown : pageOf (shown m other) p .bytes ≡ zeros
+    zeros-shown = ap (λ (y : Page). y .bytes) (same-pages o p at-p) ∙ (unfold pageOf pageBytes in (rw empty))
