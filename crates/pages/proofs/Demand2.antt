@@ -23,12 +23,12 @@ use Rattle.pages.proofs.LedgerLaws.{nonePending, someChange}
 use Rattle.pages.proofs.PlainLaws.{InStep, same-asks, agrees}
 use Rattle.pages.proofs.Represents.{accepted-full}
 use Rattle.pages.specs.Demand2.{plainAnswers, plainCard, NoStart, Calls, finished, next, Demand2}
-use Rattle.pages.specs.Needed.{needed, allNeeded}
+use Rattle.pages.specs.Needed.{needed}
 use Rattle.pages.specs.Plain.{Plain, blank, plainOf, plainAsks, PlainOutcome, answers, plainDone, plainDoes}
 use Rattle.pages.specs.Promise.{Call, start, key, read, write, rescind, snapshot, pageOut, advance, Answer, refused, done, atPlace, asks, frameCall, refusal, Kept}
 use Rattle.record.specs.Meaning.{zeroStore}
 use Rattle.recovery.proofs.Follows.{Stored, Follows}
-use Rattle.recovery.proofs.FrameTheorem.{accepted-stored, stored-long}
+use Rattle.recovery.proofs.FrameTheorem.{allNeeded, accepted-stored, stored-long}
 use Rattle.recovery.specs.Book.{FrameBook}
 use Rattle.recovery.specs.State.{State, empty, readFrame}
 use Rattle.recovery.specs.Step.{startState}

@@ -26,11 +26,10 @@ use Rattle.pages.proofs.FormatLaws.{format-area, format-ranges, format-
 use Rattle.pages.proofs.RunLaws.{Beside, or-false, serves, address-is, page-shown, called-beside, run-beside, spoilt-run, needs}
 use Rattle.pages.specs.Book.{Book, Event, formatBook, isDone, isFlush, told, bookAfter}
 use Rattle.pages.specs.Demand3.{World, Run, OfRanges, Shows, Demand3, Demand3Spoilt}
-use Rattle.pages.specs.Needed.{allNeeded}
 use Rattle.pages.specs.Page.{Page, emptyPage, pageOf, formatCard}
 use Rattle.pages.specs.Promise.{start, key, read, Answer, done, counted, filled, addressOf, atPlace, presentFrames, asks, frameCall, doneAnswer, outcome, Kept, rangesIn, formatAsks, FormatKept}
 use Rattle.record.specs.Meaning.{zeroStore}
-use Rattle.recovery.proofs.FrameTheorem.{accepted-stored, stored-long}
+use Rattle.recovery.proofs.FrameTheorem.{allNeeded, accepted-stored, stored-long}
 use Rattle.recovery.specs.Questions.{startAsks, heldAsks}
 use Rattle.recovery.specs.State.{State, readFrame}
 use Rattle.recovery.specs.Step.{startState}

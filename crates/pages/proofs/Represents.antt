@@ -26,10 +26,9 @@ use Rattle.card.specs.declared.range.Address.{Address}
 use Rattle.card.specs.declared.range.Lookup.the-variants.{Located}
 use Rattle.pages.proofs.RowLaws.{rescind-row, rescind-other, write-row, write-other}
 use Rattle.pages.specs.Book.{Table, Book, update, presentTo, written, rescinded, headerReached, flushedBook, cutBook}
-use Rattle.pages.specs.Needed.{allNeeded}
 use Rattle.pages.specs.Page.{Page, flagged, pageBytes, pageOf, writeFrames, rescindPot, rescindFrames}
 use Rattle.pages.specs.Plain.{Row, rowOf}
-use Rattle.recovery.proofs.FrameTheorem.{accepted-stored, stored-geometry}
+use Rattle.recovery.proofs.FrameTheorem.{allNeeded, accepted-stored, stored-geometry}
 use Rattle.recovery.specs.Book.{FrameBook, markedOr, applyChanges, bookChange, bookSnapshot, bookStart, bookHeader, bookCut, WholeFrame}
 use Rattle.recovery.specs.Contents.{Contents, FrameBytes, overlay}
 use Rattle.recovery.specs.Questions.{startAsks}

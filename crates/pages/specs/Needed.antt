@@ -26,7 +26,3 @@ neededAt (Located p) v = not (flagged v p)
 -- recovery's Needs, of a card with these ranges and this area
 unfoldable pub needed : List Range → ℕ → Contents → ℕ → Bool
 needed rs area v f = neededAt (pageAt rs (1 + area) f) v
-
--- every frame
-abbrev pub allNeeded : Contents → ℕ → Bool
-allNeeded v f = true

@@ -35,9 +35,13 @@ use Rattle.recovery.specs.Directory.{byFrame, downEntries, dirOf, frameO
 use Rattle.recovery.specs.Questions.{startAsks}
 use Rattle.recovery.specs.Sound.{Ordered, Sound}
 use Rattle.recovery.specs.State.{Generation, State, places, entryCount, committedSize, directoryOf, waitingFrames, empty, readFrame, committedFrame}
-use Rattle.recovery.specs.Step.{page, migration, header, oldestBytes, nextMigration, advanceDue, startCommitted, startState}
+use Rattle.recovery.specs.Step.{page, migration, oldestBytes, nextMigration, advanceDue, startCommitted, startState}
 
 -- ---- a card that a start accepts, and one that a format has left
+
+-- every frame is needed, where nothing is to be said of the layer above
+abbrev pub allNeeded : Needs
+allNeeded v f = true
 
 -- a card that start accepts shows what is read of it then
 pub accepted-stored : {needed : Needs} (m c : List ℕ) → firstNo (startAsks m c) ≡ 0 → Stored needed (length c / 512) (headerOn (blockAt c 0) .area) (headerRanges (headerOn (blockAt c 0))) c (readFrame (startState m c) c)
