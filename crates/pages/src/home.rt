@@ -35,7 +35,7 @@ fn page_in(start: usize, o: usize) -> Lookup
 }
 
 // The place of the page whose home block is f.
-pub fn page_at(area: usize, numbers: &[u32; 16], count: usize, f: usize) -> Lookup
+fn page_at(area: usize, numbers: &[u32; 16], count: usize, f: usize) -> Lookup
     requires { ⌜ (area ≤ 512) × ((count ≤ 8) × ((area < f) × (f ≤ 65536))) ⌝ }
     ensures { λ r. ⌜ r ≡ pageAt (rangesOf (now (numbers .entry)) count) (1 + area) f ⌝ }
 {
