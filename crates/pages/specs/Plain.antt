@@ -1,8 +1,8 @@
 -- The plain machine of demand 2: tables of pages and counts, and a ledger of numbers. After start it sees no card, no
 -- memory and no record. With the calls it shares what a change, a snapshot, a page-out and each kind of advance make
 -- of a generation (recovery's Step, here without bytes), the place of an OID (question 9), the frames of a write and
--- a rescind, and the blocks of directory and trailer. Its answers, its other questions, when a flush is due and the
--- bytes of pages are its own.
+-- a rescind, the blocks of directory and trailer, and which frames of a table are empty pages (Needed). Its answers,
+-- its other questions, when a flush is due, the bytes of pages, and by which table pages are empty are its own.
 -- Assumes nothing.
 use Prim.Native.Nat.{ℕ, _+_}
 use lib.Dec.{leb, ltb, eqb}
