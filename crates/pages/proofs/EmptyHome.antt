@@ -1,15 +1,15 @@
--- The home of an empty page, one whose flag is set, may hold any bytes (document 02, #104): start accepts the card and
--- shows the same pages and counts, the empty page among them, with zeros.
+-- The homes of empty pages, those whose flag is set, may hold any bytes (document 02, #104): start accepts the card
+-- and shows the same pages and counts, empty pages among them, with zeros.
 -- Assumes nothing.
 use Prim.Native.Nat.{ℕ, _+_, _/_, _<_}
 use lib.ListN.{length}
-use mathlib.Core.Bool.{true, not}
+use mathlib.Core.Bool.{true, false, not, false≢true}
 use mathlib.Core.List.{List}
 use mathlib.Core.Option.{none}
-use mathlib.Core.Path.{_≡_, ap, _∙_}
+use mathlib.Core.Path.{_≡_, ap, sym, _∙_}
 use native.Mathlib.Omega.{arith}
 use Rattle.card.proofs.AddressLaws.{Within}
-use Rattle.card.specs.Block.{blockAt, putBlock}
+use Rattle.card.specs.Block.{blockAt}
 use Rattle.card.specs.Bytes.{zeros}
 use Rattle.card.specs.Header.{headerOn}
 use Rattle.card.specs.Question.{firstNo, headerRanges}
@@ -48,16 +48,20 @@ module _ (m card : List ℕ) (accepted : firstNo (startAsks m card) ≡ 0) where
   abbrev full : blocks ≡ 1 + area + allBlocks rs
   full = accepted-full m card accepted
 
-  module _ (o : ℕ) (p : Address) (at-p : locate rs (1 + area) o ≡ Located p) (empty : flagged (shown m card) p ≡ true) (x : List ℕ) (long : length x ≡ 512) where
-    -- the card with other bytes at the empty page's home
-    abbrev other : List ℕ
-    other = putBlock card (p .page) x
+  -- the home of an empty page
+  abbrev pub EmptyAt : ℕ → Type 0
+  EmptyAt n = (o : ℕ) × (p : Address) × (locate rs (1 + area) o ≡ Located p) × (flagged (shown m card) p ≡ true) × (n ≡ p .page)
+
+  -- another card, which may have any bytes there, in as many of them as it likes
+  module _ (other : List ℕ) (long : length other ≡ length card) (same : (n : ℕ) → (EmptyAt n → ⊥) → blockAt other n ≡ blockAt card n) where
+    not-empty : (n : ℕ) → (area < n → needed rs area (shown m card) n ≡ true) → EmptyAt n → ⊥
+    not-empty n need (o, p, at-p, empty, n-is) =
+        let inside : Within (1 + area) blocks p = in-p rs blocks area full o p at-p in
+        let none : needed rs area (shown m card) n ≡ false = ap (needed rs area (shown m card)) n-is ∙ oid-needed rs area blocks full (shown m card) o p at-p .0 ∙ ap not empty in
+        false≢true (sym none ∙ need (omega (arith, inside, n-is)))
 
     other-stored : Stored (needed rs area) blocks area rs other (shown m card)
-    other-stored =
-        let inside : Within (1 + area) blocks p = in-p rs blocks area full o p at-p in
-        stored-any blocks area rs card (shown m card) (accepted-stored m card accepted) (p .page) (omega (arith, inside)) (omega (arith, inside))
-        (oid-needed rs area blocks full (shown m card) o p at-p .0 ∙ ap not empty) x long
+    other-stored = stored-any blocks area rs card (shown m card) (accepted-stored m card accepted) other long (λ n need. same n (not-empty n need))
 
     -- what is needed is shown as it was
     frame-same : (f : ℕ) → area < f → f < blocks → needed rs area (shown m card) f ≡ true → shown m other f ≡ shown m card f
@@ -73,10 +77,10 @@ module _ (m card : List ℕ) (accepted : firstNo (startAsks m card) ≡ 0) where
         page-same (shown m other) (shown m card) q (frame-same (q .pot) (omega (arith, inside)) (omega (arith, inside)) (needs .1))
         (λ clear. frame-same (q .page) (omega (arith, inside)) (omega (arith, inside)) (needs .0 ∙ ap not clear))
 
-    -- THE LAW: whatever bytes stand at the home of an empty page, start accepts and shows the same pages and counts
+    -- THE LAW: whatever bytes stand at the homes of empty pages, start accepts and shows the same pages and counts
     pub any-home : (firstNo (startAsks m other) ≡ 0) × ((u : ℕ) (q : Address) → locate rs (1 + area) u ≡ Located q → pageOf (shown m other) q ≡ pageOf (shown m card) q)
     any-home = (stored-accepts blocks area rs other (shown m card) other-stored m (told m card accepted .memory), same-pages)
 
     -- so it shows zeros there
-    pub zeros-shown : pageOf (shown m other) p .bytes ≡ zeros
-    zeros-shown = ap (λ (y : Page). y .bytes) (same-pages o p at-p) ∙ (unfold pageOf pageBytes in (rw empty))
+    pub zeros-shown : (u : ℕ) (q : Address) → locate rs (1 + area) u ≡ Located q → flagged (shown m card) q ≡ true → pageOf (shown m other) q .bytes ≡ zeros
+    zeros-shown u q at-q empty = ap (λ (y : Page). y .bytes) (same-pages u q at-q) ∙ (unfold pageOf pageBytes in (rw empty))

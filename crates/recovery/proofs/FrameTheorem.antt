@@ -3,7 +3,7 @@
 -- Assumes nothing.
 use Prim.Native.Nat.{ℕ, _*_, _/_, _≤_, _<_}
 use lib.ListN.{length}
-use mathlib.Core.Bool.{true, false, false≢true}
+use mathlib.Core.Bool.{true, false≢true}
 use mathlib.Core.List.{List}
 use mathlib.Core.Option.{some}
 use mathlib.Core.Path.{_≡_, refl, ap, sym, _∙_, subst}
@@ -12,7 +12,7 @@ use Rattle.card.proofs.AllLaws.{all-map}
 use Rattle.card.proofs.BlockLaws.{block-length}
 use Rattle.card.proofs.HeaderLaws.{HeaderBack, header-back}
 use Rattle.card.proofs.RangeLaws.{geometry-tells, geometry-numbers}
-use Rattle.card.specs.Block.{blockAt, putBlock, whole}
+use Rattle.card.specs.Block.{blockAt, whole}
 use Rattle.card.specs.Header.{headerBlock, headerOn}
 use Rattle.card.specs.Question.{firstNo, headerRanges}
 use Rattle.card.specs.Range.{Range, geometryFits}
@@ -22,7 +22,7 @@ use Rattle.recovery.proofs.Calls.{start-ok, read-present, format-ok}
 use Rattle.recovery.proofs.ContentsLaws.{overlay-first, overlay-whole, stored-whole}
 use Rattle.recovery.proofs.Follows.{Stored, Follows, empty-ordered, sorted-empty, same-committed, Facts, FactsOf, due-facts, size-pending, size-current, count-pending}
 use Rattle.recovery.proofs.GenerationLaws.{out-held}
-use Rattle.recovery.proofs.Harmless.{unneeded-write}
+use Rattle.recovery.proofs.Harmless.{harmless-left}
 use Rattle.recovery.proofs.Invariant.{GenerationFits}
 use Rattle.recovery.proofs.OrderedLaws.{oldest-is, long-waiting, same-count, some-waiting}
 use Rattle.recovery.proofs.SizeLaws.{idle-size}
@@ -80,10 +80,11 @@ module _ {needed : Needs} (blocks area : ℕ) (ranges : List Range) where
   pub stored-geometry : (c : List ℕ) (kept : Contents) → Stored needed blocks area ranges c kept → geometryFits blocks area ranges ≡ true
   stored-geometry c kept k = k .2 .geo
 
-  -- any bytes at the home of a frame that is not needed: it is stored as before
-  pub stored-any : (c : List ℕ) (kept : Contents) → Stored needed blocks area ranges c kept → (n : ℕ) → area < n → n < blocks → needed kept n ≡ false → (x : List ℕ) → length x ≡ 512
-      → Stored needed blocks area ranges (putBlock c n x) kept
-  stored-any c kept k n low high empty x long = (k .0, k .1, unneeded-write blocks area ranges (k .0) (k .1) c kept (k .2) n low high empty x long)
+  -- any bytes at the homes of frames that are not needed: it is stored as before
+  pub stored-any : (c : List ℕ) (kept : Contents) → Stored needed blocks area ranges c kept → (c′ : List ℕ) → length c′ ≡ length c
+      → ((n : ℕ) → (area < n → needed kept n ≡ true) → blockAt c′ n ≡ blockAt c n) → Stored needed blocks area ranges c′ kept
+  stored-any c kept k c′ long same =
+      (k .0, k .1, harmless-left blocks area ranges (k .0) (k .1) c kept (k .2) c′ long (same 0 (λ a. absurd (omega (arith, a)))) (λ n low bad need. same n need))
 
   -- start accepts it
   pub stored-accepts : (c : List ℕ) (kept : Contents) → Stored needed blocks area ranges c kept → (m : List ℕ) → whole 4 64 (length m) ≡ true → firstNo (startAsks m c) ≡ 0

@@ -3,7 +3,7 @@
 -- Assumes nothing.
 use Prim.Native.Nat.{ℕ, _+_, _*_, _≤_, _<_}
 use lib.ListN.{length}
-use mathlib.Core.Bool.{true, false, false≢true}
+use mathlib.Core.Bool.{true}
 use mathlib.Core.List.{List, [], _∷_}
 use mathlib.Core.Logic.{_≢_}
 use mathlib.Core.Path.{_≡_, refl, ap, sym, _∙_, subst}
@@ -128,11 +128,3 @@ harmless-write blocks area ranges commit g c kept k n harmless x long =
     let fit : 512 * n + 512 ≤ length c = omega (arith, low, k .whole) in
     harmless-left blocks area ranges commit g c kept k (putBlock c n x) (put-length c n x long fit) (put-other c n x long fit 0 (omega (arith, low)))
     (λ m h bad need. put-other c n x long fit m (λ e. bad (subst (Harmless blocks area g) (sym e) harmless)))
-
--- the home of a frame that is not needed written, whatever bytes it has
-pub unneeded-write : {needed : Needs} (blocks area : ℕ) (ranges : List Range) (commit : ℕ) (g : SortedGeneration) (c : List ℕ) (kept : Contents) → Recoverable needed blocks area ranges commit g c kept
-    → (n : ℕ) → area < n → n < blocks → needed kept n ≡ false → (x : List ℕ) → length x ≡ 512 → Recoverable needed blocks area ranges commit g (putBlock c n x) kept
-unneeded-write {needed = needed} blocks area ranges commit g c kept k n low high empty x long =
-    let fit : 512 * n + 512 ≤ length c = omega (arith, high, k .whole) in
-    harmless-left blocks area ranges commit g c kept k (putBlock c n x) (put-length c n x long fit) (put-other c n x long fit 0 (omega (arith, low)))
-    (λ m h bad need. put-other c n x long fit m (λ e. false≢true (sym empty ∙ ap (needed kept) (sym e) ∙ need (omega (arith, low, e)))))
