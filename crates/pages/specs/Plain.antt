@@ -1,8 +1,9 @@
 -- The plain machine of demand 2: tables of pages and counts, and a ledger of numbers. After start it sees no card, no
 -- memory and no record. With the calls it shares what a change, a snapshot, a page-out and each kind of advance make
 -- of a generation (recovery's Step, here without bytes), the place of an OID (question 9), the frames of a write and
--- a rescind, the blocks of directory and trailer, and which frames of a table are empty pages (Needed). Its answers,
--- its other questions, when a flush is due, the bytes of pages, and by which table pages are empty are its own.
+-- a rescind, the blocks of directory and trailer, which frames of a table are empty pages (Needed), and how many
+-- entries count as passed over (Sums: passedTo). Its answers, its other questions, when a flush is due, which kind is
+-- next and whether one is (Sums: remainingWrites), the bytes of pages, and by which table pages are empty are its own.
 -- Assumes nothing.
 use Prim.Native.Nat.{ℕ, _+_}
 use lib.Dec.{leb, ltb, eqb}

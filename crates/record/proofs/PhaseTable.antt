@@ -11,16 +11,16 @@ pub phase-numbers : (phaseOf 0 ≡ writing) × (phaseOf 1 ≡ flushed) × (phase
 unfolding phaseOf
 phase-numbers = (refl, refl, refl)
 
--- phase; copied home of how many; blocks of directory and trailer down; entries of the pending generation
+-- phase; home or passed over of how many; blocks of directory and trailer down; entries of the pending generation
 pub cases : List Bool
 cases =
     phaseHolds 0 1 2 0 0  -- writing, at any time
-    ∷ phaseHolds 1 2 2 2 3  -- flushed: the trailer is down behind one directory block, and all is home
+    ∷ phaseHolds 1 2 2 2 3  -- flushed: the trailer is down behind one directory block, and none is left to migrate
     ∷ phaseHolds 1 2 2 1 3  -- the trailer is not down
-    ∷ phaseHolds 1 1 2 2 3  -- a frame is not home
+    ∷ phaseHolds 1 1 2 2 3  -- a frame is left to migrate
     ∷ phaseHolds 1 2 2 0 0  -- no snapshot is pending
     ∷ phaseHolds 2 0 2 0 3  -- owed, a snapshot pending or not
-    ∷ phaseHolds 2 1 2 0 3  -- a frame is home
+    ∷ phaseHolds 2 1 2 0 3  -- a frame is home or passed over
     ∷ phaseHolds 2 0 2 1 3  -- a directory block is down
     ∷ phaseHolds 3 0 2 0 0  -- no phase
     ∷ []

@@ -44,7 +44,7 @@ unfoldable pub tailHolds : ℕ → ℕ → Bool
 tailHolds tail waiting = cond (eqb tail 0) true (eqb waiting 0)
 
 -- The flush just before a header write comes after all that it is to cover: a snapshot is pending, its directory and
--- trailer are down, and all of the committed generation is home.
+-- trailer are down, and all of the committed generation is home or passed over.
 unfoldable pub flushedHolds : ℕ → ℕ → ℕ → ℕ → Bool
 flushedHolds migrated committed tail pending = cond (eqb pending 0) false (eqb tail (tailFor pending) && leb committed migrated)
 

@@ -26,9 +26,9 @@ pub struct Changes {
 
 // `frames` is the number of memory frames. Those that wait stand in them one after the other from `head` on, the
 // pending ones first; after the last comes the first. `first`, `pages` and `committed` are the committed generation's
-// first block, its p, and its directory by rising frame. `migrated` counts committed entries copied home, `tail` the
-// pending directory's and trailer's blocks that are down. `phase` tells how flushes stand: 0, writing; 1, flushed for
-// the header write; 2, the flush after a header write or a start is owed.
+// first block, its p, and its directory by rising frame. `migrated` counts committed entries copied home or passed
+// over, `tail` the pending directory's and trailer's blocks that are down. `phase` tells how flushes stand: 0, writing;
+// 1, flushed for the header write; 2, the flush after a header write or a start is owed.
 #[repr(C)]
 pub struct Store {
     pub frames: usize,
