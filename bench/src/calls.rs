@@ -4,10 +4,11 @@ use crate::card::{fresh_page, FRAMES};
 use crate::clock::{median, Clock};
 use crate::controller::{Calls, Controller};
 use crate::shape::{same_bytes, Shape};
-use crate::store::PageStore;
+use crate::store::{Page, PageStore};
 use crate::subject::{spread, Subject};
 use lane::BLOCK;
 use model::Kind;
+use std::cmp::Reverse;
 use std::hint::black_box;
 
 type Own = Subject<Controller>;
@@ -165,9 +166,53 @@ pub fn snapshot(clock: &Clock, own: &mut Own, samples: usize) -> f64 {
     })
 }
 
-/// One kind of advance, on the mean of a commit of so many pages.
-pub fn advance(clock: &Clock, own: &mut Own, kind: Kind, pages: usize, samples: usize) -> f64 {
-    let pages = same_bytes(own, 0, pages);
+/// The order in which the pages of a commit change.
+#[derive(Clone, Copy)]
+pub enum Order {
+    /// As `spread` has them: far apart, in rising runs.
+    Spread,
+    Rising,
+    Random,
+    Falling,
+}
+
+impl Order {
+    pub fn name(self) -> &'static str {
+        match self {
+            Order::Spread => "spread",
+            Order::Rising => "rising",
+            Order::Random => "random",
+            Order::Falling => "falling",
+        }
+    }
+
+    fn arrange(self, pages: &mut [(u32, Page)]) {
+        match self {
+            Order::Spread => {}
+            Order::Rising => pages.sort_unstable_by_key(|page| page.0),
+            Order::Random => pages.sort_unstable_by_key(|page| scattered(page.0)),
+            Order::Falling => pages.sort_unstable_by_key(|page| Reverse(page.0)),
+        }
+    }
+}
+
+/// A number without a pattern for each OID, and no two alike: steps of Fibonacci hashing.
+fn scattered(oid: u32) -> u32 {
+    let mixed = (oid ^ (oid >> 7)).wrapping_mul(2_654_435_769);
+    (mixed ^ (mixed >> 15)).wrapping_mul(2_246_822_519)
+}
+
+/// One kind of advance, on the mean of a commit of so many pages that change in that order.
+pub fn advance(
+    clock: &Clock,
+    own: &mut Own,
+    kind: Kind,
+    pages: usize,
+    order: Order,
+    samples: usize,
+) -> f64 {
+    let mut pages = same_bytes(own, 0, pages);
+    order.arrange(&mut pages);
     let lane = &mut own.store;
     lane.abort();
     median(samples, |_| {

@@ -62,6 +62,8 @@ impl Drop for Scratch {
 /// What is asked for.
 struct Asked {
     pace: Pace,
+    /// The library's own time alone.
+    library: bool,
     folder: PathBuf,
     /// Where the figures are saved.
     save: Option<PathBuf>,
@@ -70,6 +72,7 @@ struct Asked {
 fn asked() -> Option<Asked> {
     let mut asked = Asked {
         pace: Pace::FULL,
+        library: false,
         folder: MEMORY_FILES.into(),
         save: None,
     };
@@ -77,6 +80,7 @@ fn asked() -> Option<Asked> {
     while let Some(word) = words.next() {
         match word.as_str() {
             "--quick" => asked.pace = Pace::QUICK,
+            "--library" => asked.library = true,
             "--save" => asked.save = Some(words.next()?.into()),
             option if option.starts_with('-') => return None,
             folder => asked.folder = folder.into(),
@@ -141,7 +145,9 @@ fn measure(asked: &Asked) -> io::Result<Table> {
     };
     let mut table = Table::new();
     head(&mut table, asked, &place, &scratch.0);
-    Files::new(&scratch.0, place.is_disk(), promise).measure(&rounds, &mut table);
+    if !asked.library {
+        Files::new(&scratch.0, place.is_disk(), promise).measure(&rounds, &mut table);
+    }
     println!("\nThe library's own time: its card is in memory, without a file.");
     OwnTime::new(&rounds).measure(&rounds, &mut table);
     print!("\n{}", include_str!("notes.txt"));
@@ -162,7 +168,7 @@ fn run(asked: &Asked) -> Result<(), String> {
 
 fn main() -> ExitCode {
     let Some(asked) = asked() else {
-        eprintln!("usage: bench/run [--quick] [--save FILE] [FOLDER]");
+        eprintln!("usage: bench/run [--quick] [--library] [--save FILE] [FOLDER]");
         return ExitCode::from(2);
     };
     match run(&asked) {

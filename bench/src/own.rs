@@ -1,7 +1,7 @@
 //! The second part of the table: the library's own time, over a card in memory without a file, beside
 //! the plain model's.
 
-use crate::calls::{self, Turn};
+use crate::calls::{self, Order, Turn};
 use crate::card::FRAMES;
 use crate::clock::Clock;
 use crate::controller::Controller;
@@ -122,7 +122,15 @@ impl OwnTime {
             for kind in [Kind::P, Kind::D, Kind::T, Kind::F, Kind::H, Kind::M] {
                 let label = format!("advance {kind:?}, commit of {pages}");
                 self.row(rounds, table, &label, 1, |c, s| {
-                    calls::advance(c, s, kind, pages, n)
+                    calls::advance(c, s, kind, pages, Order::Spread, n)
+                });
+            }
+        }
+        for order in [Order::Rising, Order::Random, Order::Falling] {
+            for kind in [Kind::D, Kind::H] {
+                let label = format!("advance {kind:?}, 251 changed {}", order.name());
+                self.row(rounds, table, &label, 1, |c, s| {
+                    calls::advance(c, s, kind, 251, order, n)
                 });
             }
         }

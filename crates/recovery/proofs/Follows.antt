@@ -61,7 +61,7 @@ module _ {needed : Needs} (blocks area : ℕ) (ranges : List Range) (s : State) 
 
 pub empty-ordered : (first : ℕ) → Ordered (empty first)
 unfolding empty places
-empty-ordered first = record { single = tt; taken = tt; waits = λ k l m. absurd (omega arith) }
+empty-ordered first = record { rises = tt; taken = tt; waits = λ k l m. absurd (omega arith) }
 
 pub sorted-empty : (area first : ℕ) → sortedGeneration area (empty first) ≡ sortedEmpty first
 unfolding empty directoryOf waitingFrames dirOf downEntries byFrame waitingFrom

@@ -27,3 +27,4 @@ pub mod Durable
 pub mod FrameTheorem
 pub mod Persists
 pub mod Trace
+pub mod FirstChange

@@ -1,7 +1,7 @@
--- The steps of a generation in order of first change are the steps of the sorted one, and question 2's facts about its entries are kept.
+-- The steps of a generation with its entries by rising frame are the steps of the sorted one, and question 2's facts about its entries are kept.
 -- Assumes nothing.
 use Prim.Native.Nat.{ℕ, zero, suc, _+_, _-_, _≤_, _<_}
-use borrow.Author.Tests.{ltb-true, ltb-false, eqb-true, eqb-false, lt-ltb, le-ltb}
+use borrow.Author.Tests.{ltb-true, ltb-false, eqb-true, eqb-false, lt-ltb, le-ltb, ne-eqb}
 use lib.Dec.{ltb, eqb}
 use lib.ListN.{length, set, length-append, length-set}
 use mathlib.Core.Bool.{Bool, true, false, cond}
@@ -17,14 +17,14 @@ use Rattle.card.proofs.Test.{byTest}
 use Rattle.card.specs.Bytes.{All}
 use Rattle.card.specs.declared.directory.Entry.{Entry}
 use Rattle.recovery.proofs.ContentsLaws.{length-insertByFrame-new}
-use Rattle.recovery.proofs.NoteLaws.{lookup-byFrame}
+use Rattle.recovery.proofs.NoteLaws.{lookup-byFrame, rises-single, below-unnoted, all-note, rises-note}
 use Rattle.recovery.proofs.PlaceLaws.{lookup-other, dir-change, dir-out}
 use Rattle.recovery.proofs.SizeLaws.{pagedOut-count}
 use Rattle.recovery.proofs.Sorted.{withoutFrame, queueChange, Absent, lookup, SortedGeneration, placesOf, countOf, sizeOf, sortedGeneration, oldest, pagedOut, queueAll, withoutAll}
 use Rattle.recovery.proofs.WaitLaws.{length-waiting, wait-same, wait-last, queue-new, wait-without, wait-again, frame-new, frame-other}
 use Rattle.recovery.specs.Contents.{FrameBytes}
 use Rattle.recovery.specs.Directory.{Note, noteChange, byFrame, downEntries, dirOf, frameOf, waitingFrom, turnOf}
-use Rattle.recovery.specs.Sound.{Unnoted, Single, Holds, Ordered}
+use Rattle.recovery.specs.Sound.{Unnoted, Single, Rises, Holds, Ordered}
 use Rattle.recovery.specs.State.{places, Generation, entryCount, size, directoryOf, waitingFrames}
 use Rattle.recovery.specs.Step.{queued, changeFrame, changeFrames, oldestBytes, outOf}
 
@@ -107,7 +107,7 @@ pub out-ordered : (g : Generation) → Ordered g → 0 < length (g .waiting) →
 unfolding outOf
 out-ordered g o h =
     let e : places (outOf g) ≡ places g = out-places g h in
-    record { single = o .single; taken = rw e (o .taken); waits = λ k l m. o .waits k (omega arith) (omega (arith, e)) }
+    record { rises = o .rises; taken = rw e (o .taken); waits = λ k l m. o .waits k (omega arith) (omega (arith, e)) }
 
 out-waiting : (g : Generation) → 0 < length (g .waiting) → suc (length (outOf g .waiting)) ≡ length (g .waiting)
 unfolding outOf
@@ -135,7 +135,7 @@ module _ (area : ℕ) where
   unfolding countOf places waitingFrames directoryOf
   count-none g h o =
       let all : length (dirOf area (g .first) (g .pagesDown) (g .entries)) ≡ length (g .entries) =
-      length-down area (g .first) (g .pagesDown) (g .entries) (o .single) (all-map (λ e. e .place < places g) (λ e. e .place < g .pagesDown) (g .entries) (λ e l. omega arith) (o .taken)) in
+      length-down area (g .first) (g .pagesDown) (g .entries) (rises-single (g .entries) (o .rises)) (all-map (λ e. e .place < places g) (λ e. e .place < g .pagesDown) (g .entries) (λ e l. omega arith) (o .taken)) in
       omega (arith, all, length-waiting (g .entries) (g .pagesDown) (g .waiting))
 
   count-out : (g : Generation) → 0 < length (g .waiting) → Ordered g → entryCount (outOf g) ≡ countOf (sortedGeneration area (outOf g)) → entryCount g ≡ countOf (sortedGeneration area g)
@@ -192,56 +192,62 @@ module _ (f put : ℕ) where
           subst P is (a .0)
       go false u q r rec h a = rec h (a .1)
 
+  -- a frame that is not there has no turn
+  unturned : (es : List Note) → Unnoted f es → turnOf f put es ≡ none
+  unfolding turnOf
+  unturned [] h = refl
+  unturned (x ∷ es) h = rw (ne-eqb f (x .frame) (h .0)) (unturned es (h .1))
+
   -- its entry stays as it is
-  turn-same : (es : List Note) (i : ℕ) → turnOf f put es ≡ some i → noteChange (record { frame = f; place = put + i }) es ≡ es
+  turn-same : (es : List Note) (i : ℕ) → Rises es → turnOf f put es ≡ some i → noteChange (record { frame = f; place = put + i }) es ≡ es
   unfolding turnOf noteChange
-  turn-same [] i = λ h. let z : _≡_ {A = ℕ} 0 1 = cc in absurd (omega arith)
-  turn-same (e ∷ es) i = go (eqb f (e .frame)) (ltb (e .place) put) refl refl (turn-same es i)
+  turn-same [] i s = λ h. let z : _≡_ {A = ℕ} 0 1 = cc in absurd (omega arith)
+  turn-same (e ∷ es) i s = go (ltb f (e .frame)) (eqb f (e .frame)) (ltb (e .place) put) refl refl refl (turn-same es i (s .1))
     where
-      go : (t u : Bool) → eqb f (e .frame) ≡ t → ltb (e .place) put ≡ u → (turnOf f put es ≡ some i → noteChange (record { frame = f; place = put + i }) es ≡ es)
+      go : (v t u : Bool) → ltb f (e .frame) ≡ v → eqb f (e .frame) ≡ t → ltb (e .place) put ≡ u → (turnOf f put es ≡ some i → noteChange (record { frame = f; place = put + i }) es ≡ es)
           → cond t (cond u none (some (e .place - put))) (turnOf f put es) ≡ some i
-          → cond t (record { frame = f; place = put + i } ∷ es) (e ∷ noteChange (record { frame = f; place = put + i }) es) ≡ e ∷ es
-      go true true q r rec h = let z : _≡_ {A = ℕ} 0 1 = cc in absurd (omega arith)
-      go true false q r rec h =
+          → cond v (record { frame = f; place = put + i } ∷ e ∷ es) (cond t (record { frame = f; place = put + i } ∷ es) (e ∷ noteChange (record { frame = f; place = put + i }) es)) ≡ e ∷ es
+      go true true u l q r rec h = absurd (omega (arith, ltb-true f (e .frame) l, eqb-true f (e .frame) q))
+      go true false u l q r rec h =
+          let no : turnOf f put es ≡ none = unturned es (below-unnoted f e es (ltb-true f (e .frame) l) s .1) in
+          let h′ : none ≡ some i = sym no ∙ h in
+          let z : _≡_ {A = ℕ} 0 1 = cc in
+          absurd (omega arith)
+      go false true true l q r rec h = let z : _≡_ {A = ℕ} 0 1 = cc in absurd (omega arith)
+      go false true false l q r rec h =
           let i-is : e .place - put ≡ i = cc in
           let place-is : e .place ≡ put + i = omega (arith, ltb-false (e .place) put r) in
           let is : record { frame = f; place = put + i } ≡ e = λ j. record { frame = eqb-true f (e .frame) q j; place = sym place-is j } in
           ap (λ (x : Note). x ∷ es) is
-      go false u q r rec h = ap (λ (l : List Note). e ∷ l) (rec h)
+      go false false u l q r rec h = ap (λ (l : List Note). e ∷ l) (rec h)
 
-all-note : (P : Note → Type 0) (e : Note) (es : List Note) → P e → All P es → All P (noteChange e es)
-unfolding noteChange
-all-note P e [] p h = (p, tt)
-all-note P e (x ∷ xs) p h = byTest (All P) (eqb (e .frame) (x .frame)) (λ q. (p, h .1)) (λ q. (h .0, all-note P e xs p (h .1)))
-
-single-note : (e : Note) (es : List Note) → Single es → Single (noteChange e es)
-unfolding noteChange
-single-note e [] s = (tt, tt)
-single-note e (x ∷ xs) s = byTest Single (eqb (e .frame) (x .frame))
-    (λ q. (rw (← (eqb-true (e .frame) (x .frame) q)) at (s .0), s .1))
-    (λ q. (all-note (λ y. x .frame ≢ y .frame) e xs (λ k. eqb-false (e .frame) (x .frame) q (sym k)) (s .0), single-note e xs (s .1)))
-
-holds-new : (f p : ℕ) (es : List Note) → Single es → All (λ e. e .place < p) es → Holds f p (noteChange (record { frame = f; place = p }) es)
+holds-new : (f p : ℕ) (es : List Note) → Rises es → All (λ e. e .place < p) es → Holds f p (noteChange (record { frame = f; place = p }) es)
 unfolding noteChange
 holds-new f p [] s h = (((λ k. refl), (λ k. refl)), tt)
-holds-new f p (e ∷ es) s h = byTest (Holds f p) (eqb f (e .frame))
+holds-new f p (e ∷ es) s h = byTest (Holds f p) (ltb f (e .frame))
+    (λ l. (
+      ((λ k. refl), (λ k. refl)),
+      all-both (λ x. f ≢ x .frame) (λ x. x .place < p) (λ x. (x .frame ≡ f → x .place ≡ p) × (x .place ≡ p → x .frame ≡ f)) (e ∷ es)
+          (λ x a m. ((λ k. absurd (a (sym k))), (λ k. absurd (omega arith)))) (below-unnoted f e es (ltb-true f (e .frame) l) s) h,
+    ))
+    (λ l. byTest (Holds f p) (eqb f (e .frame))
     (λ q. (
       ((λ k. refl), (λ k. refl)),
-      all-both (λ x. e .frame ≢ x .frame) (λ x. x .place < p) (λ x. (x .frame ≡ f → x .place ≡ p) × (x .place ≡ p → x .frame ≡ f)) es
-          (λ x a l. ((λ k. absurd (a (sym (k ∙ eqb-true f (e .frame) q)))), (λ k. absurd (omega arith)))) (s .0) (h .1),
+      all-both (λ x. e .frame < x .frame) (λ x. x .place < p) (λ x. (x .frame ≡ f → x .place ≡ p) × (x .place ≡ p → x .frame ≡ f)) es
+          (λ x a m. ((λ k. absurd (omega (arith, k, eqb-true f (e .frame) q))), (λ k. absurd (omega arith)))) (s .0) (h .1),
     ))
-    (λ q. (((λ k. absurd (eqb-false f (e .frame) q (sym k))), (λ k. absurd (omega (arith, h .0)))), holds-new f p es (s .1) (h .1)))
+    (λ q. (((λ k. absurd (eqb-false f (e .frame) q (sym k))), (λ k. absurd (omega (arith, h .0)))), holds-new f p es (s .1) (h .1))))
 
 noted : (f p : ℕ) (es : List Note) → Unnoted f (noteChange (record { frame = f; place = p }) es) → ⊥
 unfolding noteChange
 noted f p [] = λ h. h .0 refl
-noted f p (e ∷ es) = byTest (λ l. Unnoted f l → ⊥) (eqb f (e .frame)) (λ q h. h .0 refl) (λ q h. noted f p es (h .1))
+noted f p (e ∷ es) = byTest (λ l. Unnoted f l → ⊥) (ltb f (e .frame)) (λ l h. h .0 refl) (λ l. byTest (λ l. Unnoted f l → ⊥) (eqb f (e .frame)) (λ q h. h .0 refl) (λ q h. noted f p es (h .1)))
 
 unnoted-back : (x f p : ℕ) (es : List Note) → x ≢ f → Unnoted x (noteChange (record { frame = f; place = p }) es) → Unnoted x es
 unfolding noteChange
 unnoted-back x f p [] d = λ h. tt
-unnoted-back x f p (e ∷ es) d = byTest (λ l. Unnoted x l → Unnoted x (e ∷ es)) (eqb f (e .frame))
-    (λ q h. ((λ k. d (k ∙ sym (eqb-true f (e .frame) q))), h .1)) (λ q h. (h .0, unnoted-back x f p es d (h .1)))
+unnoted-back x f p (e ∷ es) d = byTest (λ l. Unnoted x l → Unnoted x (e ∷ es)) (ltb f (e .frame)) (λ l h. h .1) (λ l. byTest (λ l. Unnoted x l → Unnoted x (e ∷ es)) (eqb f (e .frame))
+    (λ q h. ((λ k. d (k ∙ sym (eqb-true f (e .frame) q))), h .1)) (λ q h. (h .0, unnoted-back x f p es d (h .1))))
 
 module _ (area : ℕ) (w : FrameBytes) (g : Generation) (o : Ordered g) where
   f : ℕ
@@ -270,10 +276,10 @@ module _ (area : ℕ) (w : FrameBytes) (g : Generation) (o : Ordered g) where
       let before : (j : ℕ) → g .pagesDown ≤ j → j < g .pagesDown + i → w .frame ≢ frameOf j (g .entries) =
       λ j l m k. (let h : g .pagesDown + i ≡ j = turn-some (w .frame) (g .pagesDown) (g .entries) i (λ x. (x .frame ≡ frameOf j (g .entries) → x .place ≡ j) × (x .place ≡ j → x .frame ≡ frameOf j (g .entries))) e (o .waits j l (omega arith) .0) .0 k in omega arith) in
       let dir-is : dirOf area (g .first) (g .pagesDown) (g .entries) ≡ withoutFrame (w .frame) (dirOf area (g .first) (g .pagesDown) (g .entries)) =
-      ap (dirOf area (g .first) (g .pagesDown)) (sym (turn-same (w .frame) (g .pagesDown) (g .entries) i e)) ∙ dir-change area (g .first) (g .pagesDown) (w .frame) (g .pagesDown + i) (g .entries) (omega arith) (o .single) in
+      ap (dirOf area (g .first) (g .pagesDown)) (sym (turn-same (w .frame) (g .pagesDown) (g .entries) i (o .rises) e)) ∙ dir-change area (g .first) (g .pagesDown) (w .frame) (g .pagesDown + i) (g .entries) (omega arith) (o .rises) in
       let wait-is = wait-again (g .entries) (w .frame) i (g .pagesDown) (g .waiting) (w .bytes) short (sym is) before in
       let same : places (record { first = g .first; pagesDown = g .pagesDown; entries = g .entries; waiting = set (g .waiting) i (w .bytes) }) ≡ places g = unfold places in (omega (arith, length-set (g .waiting) i (w .bytes))) in (
-        record { single = o .single; taken = rw same (o .taken); waits = λ k l m. o .waits k l (omega (arith, same)) },
+        record { rises = o .rises; taken = rw same (o .taken); waits = λ k l m. o .waits k l (omega (arith, same)) },
         λ j. record { first = g .first; pagesDown = g .pagesDown; dir = dir-is j; waiting = wait-is j },
       )
 
@@ -284,12 +290,12 @@ module _ (area : ℕ) (w : FrameBytes) (g : Generation) (o : Ordered g) where
       let p : ℕ = places g in
       let p-is : places g ≡ g .pagesDown + length (g .waiting) = unfold places in refl in
       let new : Note = record { frame = w .frame; place = places g } in
-      let old = turn-none (w .frame) (g .pagesDown) (g .entries) (o .single) e in
+      let old = turn-none (w .frame) (g .pagesDown) (g .entries) (rises-single (g .entries) (o .rises)) e in
       let away : (j : ℕ) → g .pagesDown ≤ j → All (λ x. x .frame ≡ w .frame → x .place ≢ j) (g .entries) =
       λ j l. all-map (λ x. x .frame ≡ w .frame → x .place < g .pagesDown) (λ x. x .frame ≡ w .frame → x .place ≢ j) (g .entries) (λ x h k. omega (arith, h k)) old in
       let un : (j : ℕ) → g .pagesDown ≤ j → j < places g → w .frame ≢ frameOf j (g .entries) =
       λ j l m k. (let q = o .waits j l m in q .1 (rw (← k) (unheld (g .entries) old j l (rw (← k) at (q .0))))) in
-      let dir-is = dir-change area (g .first) (g .pagesDown) (w .frame) (places g) (g .entries) (omega (arith, p-is)) (o .single) in
+      let dir-is = dir-change area (g .first) (g .pagesDown) (w .frame) (places g) (g .entries) (omega (arith, p-is)) (o .rises) in
       let front : waitingFrom (noteChange new (g .entries)) (g .pagesDown) (g .waiting) ≡ waitingFrom (g .entries) (g .pagesDown) (g .waiting) =
       wait-same (noteChange new (g .entries)) (g .entries) (g .pagesDown) (g .waiting) (λ j l m. frame-other (w .frame) (places g) j (g .entries) (omega (arith, p-is)) (away j l)) in
       let last : frameOf (g .pagesDown + length (g .waiting)) (noteChange new (g .entries)) ≡ w .frame = rw (← p-is) (frame-new (w .frame) (places g) (g .entries) (o .taken)) in
@@ -300,7 +306,7 @@ module _ (area : ℕ) (w : FrameBytes) (g : Generation) (o : Ordered g) where
       let more : places (record { first = g .first; pagesDown = g .pagesDown; entries = noteChange new (g .entries); waiting = g .waiting ++ (w .bytes ∷ []) }) ≡ suc (places g) =
       unfold places in (omega (arith, length-append (g .waiting) (w .bytes ∷ []))) in (
         record {
-          single = single-note new (g .entries) (o .single);
+          rises = rises-note new (g .entries) (o .rises);
           taken = rw more (all-note (λ x. x .place < suc (places g)) new (g .entries) (omega arith) (all-map (λ x. x .place < places g) (λ x. x .place < suc (places g)) (g .entries) (λ x h. omega arith) (o .taken)));
           waits = λ k l m. waits-after new k l (omega (arith, more)) (ℕ-discrete k (places g)) old un (away k l);
         },
@@ -319,7 +325,7 @@ module _ (area : ℕ) (w : FrameBytes) (g : Generation) (o : Ordered g) where
           → Holds (frameOf k (noteChange (record { frame = w .frame; place = places g }) (g .entries))) k (noteChange (record { frame = w .frame; place = places g }) (g .entries))
           × (Unnoted (frameOf k (noteChange (record { frame = w .frame; place = places g }) (g .entries))) (noteChange (record { frame = w .frame; place = places g }) (g .entries)) → ⊥)
       waits-after new k l m (yes e) old un away =
-          rw (e, frame-new (w .frame) (places g) (g .entries) (o .taken)) (holds-new (w .frame) (places g) (g .entries) (o .single) (o .taken), noted (w .frame) (places g) (g .entries))
+          rw (e, frame-new (w .frame) (places g) (g .entries) (o .taken)) (holds-new (w .frame) (places g) (g .entries) (o .rises) (o .taken), noted (w .frame) (places g) (g .entries))
       waits-after new k l m (no d) old un away =
           let under : k < places g = omega arith in
           let q = o .waits k l under in

@@ -1,7 +1,7 @@
 -- A generation whose record has (frame, last place) for each frame: what a change and a page-out do to its directory.
 -- Assumes nothing.
 use Prim.Native.Nat.{ℕ, suc, _≤_, _<_}
-use borrow.Author.Tests.{eqb-true, eqb-false, lt-ltb, le-ltb, eq-eqb, ne-eqb}
+use borrow.Author.Tests.{ltb-true, eqb-true, eqb-false, lt-ltb, le-ltb, eq-eqb, ne-eqb}
 use lib.Dec.{ltb, eqb}
 use mathlib.Core.Bool.{Bool, true, false, cond}
 use mathlib.Core.List.{List, [], _∷_}
@@ -16,10 +16,10 @@ use Rattle.card.specs.Ring.{ringAt}
 use Rattle.card.specs.declared.directory.Entry.{Entry}
 use Rattle.recovery.proofs.Calls.{rising-remove}
 use Rattle.recovery.proofs.GenerationLaws.{rising-insertByFrame}
-use Rattle.recovery.proofs.NoteLaws.{lookup-insertByFrame, lookup-byFrame, rising-byFrame, rising-ext}
+use Rattle.recovery.proofs.NoteLaws.{lookup-insertByFrame, lookup-byFrame, rising-byFrame, rising-ext, rises-single, below-unnoted}
 use Rattle.recovery.proofs.Sorted.{withoutFrame, lookup}
 use Rattle.recovery.specs.Directory.{Note, noteChange, insertByFrame, byFrame, downEntries, dirOf}
-use Rattle.recovery.specs.Sound.{Unnoted, Single, Holds}
+use Rattle.recovery.specs.Sound.{Unnoted, Rises, Holds}
 
 remove-hit : (f : ℕ) (es : List Entry) → lookup f (withoutFrame f es) ≡ 0
 unfolding lookup withoutFrame
@@ -63,7 +63,7 @@ module _ (area first : ℕ) where
   down-inside l put (e ∷ es) h =
       byTest (All (λ x. x .block ≤ area)) (ltb (e .place) put) (λ q. (ring-high area first (e .place) l (h .0), down-inside l put es (h .1))) (λ q. down-inside l put es (h .1))
 
-  lookup-none : (put x : ℕ) (es : List Note) → Unnoted x es → lookup x (downEntries area first put es) ≡ 0
+  pub lookup-none : (put x : ℕ) (es : List Note) → Unnoted x es → lookup x (downEntries area first put es) ≡ 0
   unfolding lookup downEntries
   lookup-none put x [] h = refl
   lookup-none put x (e ∷ es) h = lookup-other put x e es (h .0) ∙ lookup-none put x es (h .1)
@@ -80,19 +80,23 @@ module _ (area first : ℕ) where
 
   -- ---- a frame that takes a place which is not down lookup-waiting
 
-  change-hit : (put f n : ℕ) (es : List Note) → put ≤ n → Single es → lookup f (downEntries area first put (noteChange (record { frame = f; place = n }) es)) ≡ 0
+  change-hit : (put f n : ℕ) (es : List Note) → put ≤ n → Rises es → lookup f (downEntries area first put (noteChange (record { frame = f; place = n }) es)) ≡ 0
   unfolding noteChange
   change-hit put f n [] h s = lookup-waiting put f (record { frame = f; place = n }) [] h ∙ lookup-none put f [] tt
-  change-hit put f n (e ∷ es) h s = byTest (λ l. lookup f (downEntries area first put l) ≡ 0) (eqb f (e .frame))
-      (λ q. lookup-waiting put f (record { frame = f; place = n }) es h ∙ lookup-none put f es (rw (← (eqb-true f (e .frame) q)) at (s .0)))
-      (λ q. lookup-other put f e _ (eqb-false f (e .frame) q) ∙ change-hit put f n es h (s .1))
+  change-hit put f n (e ∷ es) h s = byTest (λ l. lookup f (downEntries area first put l) ≡ 0) (ltb f (e .frame))
+      (λ l. lookup-waiting put f (record { frame = f; place = n }) (e ∷ es) h ∙ lookup-none put f (e ∷ es) (below-unnoted f e es (ltb-true _ _ l) s))
+      (λ l. byTest (λ l. lookup f (downEntries area first put l) ≡ 0) (eqb f (e .frame))
+      (λ q. lookup-waiting put f (record { frame = f; place = n }) es h ∙ lookup-none put f es (rw (← (eqb-true f (e .frame) q)) at (rises-single (e ∷ es) s .0)))
+      (λ q. lookup-other put f e _ (eqb-false f (e .frame) q) ∙ change-hit put f n es h (s .1)))
 
   change-miss : (put x f n : ℕ) (es : List Note) → x ≢ f → lookup x (downEntries area first put (noteChange (record { frame = f; place = n }) es)) ≡ lookup x (downEntries area first put es)
   unfolding noteChange
   change-miss put x f n [] d = lookup-other put x (record { frame = f; place = n }) [] d
-  change-miss put x f n (e ∷ es) d = byTest (λ l. lookup x (downEntries area first put l) ≡ lookup x (downEntries area first put (e ∷ es))) (eqb f (e .frame))
+  change-miss put x f n (e ∷ es) d = byTest (λ l. lookup x (downEntries area first put l) ≡ lookup x (downEntries area first put (e ∷ es))) (ltb f (e .frame))
+      (λ l. lookup-other put x (record { frame = f; place = n }) (e ∷ es) d)
+      (λ l. byTest (λ l. lookup x (downEntries area first put l) ≡ lookup x (downEntries area first put (e ∷ es))) (eqb f (e .frame))
       (λ q. lookup-other put x (record { frame = f; place = n }) es d ∙ sym (lookup-other put x e es (λ k. d (k ∙ sym (eqb-true f (e .frame) q)))))
-      (λ q. cons-same put put x e (noteChange (record { frame = f; place = n }) es) es refl (change-miss put x f n es d))
+      (λ q. cons-same put put x e (noteChange (record { frame = f; place = n }) es) es refl (change-miss put x f n es d)))
 
   -- ---- the frame whose place is the next is put down
 
@@ -120,7 +124,7 @@ module _ (area first : ℕ) where
   -- ---- the directory of the record
 
   -- a changed frame has no entry until it is put down
-  pub dir-change : (put f n : ℕ) (es : List Note) → put ≤ n → Single es → dirOf area first put (noteChange (record { frame = f; place = n }) es) ≡ withoutFrame f (dirOf area first put es)
+  pub dir-change : (put f n : ℕ) (es : List Note) → put ≤ n → Rises es → dirOf area first put (noteChange (record { frame = f; place = n }) es) ≡ withoutFrame f (dirOf area first put es)
   unfolding dirOf
   dir-change put f n es h s = rising-ext _ _ (rising-byFrame _) (rising-remove f _ (rising-byFrame (downEntries area first put es))) (λ x. go x (ℕ-discrete x f))
     where

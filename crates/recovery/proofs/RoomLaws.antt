@@ -16,13 +16,14 @@ use Rattle.card.proofs.RingLaws.{size-more}
 use Rattle.card.proofs.Test.{byTest}
 use Rattle.card.specs.Question.{ask, firstNo}
 use Rattle.card.specs.Ring.{generationSize}
-use Rattle.recovery.proofs.SumLaws.{Distinct, one-place, one-entry, one-down, others-places, others-entries, same-room}
+use Rattle.recovery.proofs.SumLaws.{Distinct, one-place, one-entry, one-down, others-places, others-entries, same-room, one-rises}
 use Rattle.recovery.specs.Contents.{FrameBytes}
 use Rattle.recovery.specs.Directory.{turnOf}
 use Rattle.recovery.specs.Questions.{newPlaces, roomAsks}
 use Rattle.recovery.specs.State.{Generation, State, places, entryCount, size, committedSize}
 use Rattle.recovery.specs.Step.{queued, changeFrame, changeFrames, afterChange}
 use Rattle.recovery.specs.Sums.{waitsIn, placesNeeded, entriesNeeded, sizeAfter, roomSums}
+use Rattle.recovery.specs.Sound.{Rises}
 
 -- ---- how a change grows a generation, and what room tells of the state after it
 
@@ -92,18 +93,18 @@ Enough ws s = 0 < placesNeeded ws (s .current)
     × (generationSize (s .committed .places) (length (s .committed .entries)) + generationSize (places (s .pending)) (entryCount (s .pending)) + sizeAfter ws s ≤ s .area)
     × (length (s .pending .waiting) + length (s .current .waiting) + placesNeeded ws (s .current) ≤ s .memoryFrames)
 
-module _ (ws : List FrameBytes) (s : State) (d : Distinct ws) where
+module _ (ws : List FrameBytes) (s : State) (d : Distinct ws) (o : Rises (s .current .entries)) where
   room-tells : firstNo (roomAsks ws s) ≡ 0 → Enough ws s
   unfolding roomSums
   room-tells h l =
-      let p = passed-both 11 (leb (sizeAfter ws s) (s .area / 2)) _ (rw (same-room ws s d, ne-eqb (placesNeeded ws (s .current)) 0 (omega arith)) at h) in
+      let p = passed-both 11 (leb (sizeAfter ws s) (s .area / 2)) _ (rw (same-room ws s d o, ne-eqb (placesNeeded ws (s .current)) 0 (omega arith)) at h) in
       let q = passed-both 12 _ _ (p .1) in
       let r = passed-both 13 _ _ (q .1) in
       (leb-true _ _ (p .0), leb-true _ _ (q .0), leb-true _ _ (r .0))
 
   room-given : Enough ws s → firstNo (roomAsks ws s) ≡ 0
   unfolding roomSums
-  room-given h = rw (same-room ws s d) (byTest (λ qs. firstNo qs ≡ 0) (eqb (placesNeeded ws (s .current)) 0)
+  room-given h = rw (same-room ws s d o) (byTest (λ qs. firstNo qs ≡ 0) (eqb (placesNeeded ws (s .current)) 0)
       (λ z. none-asked)
       (λ z. let some : placesNeeded ws (s .current) ≢ 0 = eqb-false _ _ z in let e = h (omega arith) in
       asked-yes 12 _ _ (le-leb _ _ (e .0)) ∙ asked-yes 13 _ _ (le-leb _ _ (e .1)) ∙ asked-yes 14 _ _ (le-leb _ _ (e .2)) ∙ none-asked))
@@ -117,12 +118,12 @@ one-waits : (w : FrameBytes) (g : Generation) → length (changeFrame w g .waiti
 unfolding places
 one-waits w g = omega (arith, one-place w g, one-down w g)
 
-module _ (w : FrameBytes) (ws : List FrameBytes) (s : State) (d : Distinct (w ∷ ws)) (h : firstNo (roomAsks (w ∷ ws) s) ≡ 0) where
+module _ (w : FrameBytes) (ws : List FrameBytes) (s : State) (d : Distinct (w ∷ ws)) (o : Rises (s .current .entries)) (h : firstNo (roomAsks (w ∷ ws) s) ≡ 0) where
   -- for the first, and for the rest after it
   pub room-first : firstNo (roomAsks (w ∷ []) s) ≡ 0
   unfolding placesNeeded entriesNeeded
-  room-first = room-given (w ∷ []) s (tt, tt) (λ l.
-      let e = room-tells (w ∷ ws) s d h (omega arith) in
+  room-first = room-given (w ∷ []) s (tt, tt) o (λ l.
+      let e = room-tells (w ∷ ws) s d o h (omega arith) in
       let less : sizeAfter (w ∷ []) s ≤ sizeAfter (w ∷ ws) s = size-more _ _ _ _ (omega arith) (omega arith) in
       (omega (arith, e .0, less), omega (arith, e .1, less), omega (arith, e .2)))
 
@@ -131,7 +132,7 @@ module _ (w : FrameBytes) (ws : List FrameBytes) (s : State) (d : Distinct (w �
   room-rest =
       let g = s .current in
       let k = others-places w g ws (d .0) in
-      let same : sizeAfter ws (afterChange (w ∷ []) s) ≡ sizeAfter (w ∷ ws) s = rw (k, others-entries w g ws (d .0), one-place w g, one-entry w g, add-assoc (places g) _ _, add-assoc (entryCount g) _ _) refl in
-      room-given ws (afterChange (w ∷ []) s) (d .1) (λ l.
-      let e = room-tells (w ∷ ws) s d h (omega (arith, k)) in
+      let same : sizeAfter ws (afterChange (w ∷ []) s) ≡ sizeAfter (w ∷ ws) s = rw (k, others-entries w g ws (d .0), one-place w g, one-entry w g o, add-assoc (places g) _ _, add-assoc (entryCount g) _ _) refl in
+      room-given ws (afterChange (w ∷ []) s) (d .1) (one-rises w g o) (λ l.
+      let e = room-tells (w ∷ ws) s d o h (omega (arith, k)) in
       (omega (arith, e .0, same), omega (arith, e .1, same), omega (arith, e .2, k, one-waits w g)))

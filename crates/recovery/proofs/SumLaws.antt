@@ -22,6 +22,8 @@ use Rattle.recovery.specs.Questions.{newPlaces, roomAsks, given, advance
 use Rattle.recovery.specs.State.{Generation, State, places, entryCount, size, committedSize, isOwed, isFlushed}
 use Rattle.recovery.specs.Step.{queued, changeFrame, changeFrames, afterChange, Kind, page, directory, trailer, migration, header, flush, migrationDue, advanceDue, migrating, passTo, nextMigration}
 use Rattle.recovery.specs.Sums.{isSome, waitsIn, notedIn, placesNeeded, entriesNeeded, remainingWrites, firstOf, roomSums, advanceSums, leading, movesOf, passedTo, movesLeft}
+use Rattle.recovery.proofs.NoteLaws.{below-unnoted, rises-note}
+use Rattle.recovery.specs.Sound.{Unnoted, Rises}
 
 -- no frame twice
 abbrev pub Distinct : List FrameBytes → Type 0
@@ -31,26 +33,38 @@ Distinct (w ∷ ws) = All (λ x. x .frame ≢ w .frame) ws × Distinct ws
 turn-other : (x f p put : ℕ) (es : List Note) → x ≢ f → turnOf x put (noteChange (record { frame = f; place = p }) es) ≡ turnOf x put es
 unfolding turnOf noteChange
 turn-other x f p put [] d = rw (ne-eqb x f d)
-turn-other x f p put (e ∷ es) d = byTest (λ l. turnOf x put l ≡ turnOf x put (e ∷ es)) (eqb f (e .frame))
+turn-other x f p put (e ∷ es) d = byTest (λ l. turnOf x put l ≡ turnOf x put (e ∷ es)) (ltb f (e .frame)) (λ l. rw (ne-eqb x f d))
+    (λ l. byTest (λ l. turnOf x put l ≡ turnOf x put (e ∷ es)) (eqb f (e .frame))
     (λ q. let n : x ≢ e .frame = λ k. d (k ∙ sym (eqb-true f (e .frame) q)) in rw (ne-eqb x f d, ne-eqb x (e .frame) n))
-    (λ q. ap (cond (eqb x (e .frame)) (cond (ltb (e .place) put) none (some (e .place - put)))) (turn-other x f p put es d))
+    (λ q. ap (cond (eqb x (e .frame)) (cond (ltb (e .place) put) none (some (e .place - put)))) (turn-other x f p put es d)))
 
 noted-other : (x f p : ℕ) (es : List Note) → x ≢ f → notedIn x (noteChange (record { frame = f; place = p }) es) ≡ notedIn x es
 unfolding notedIn noteChange
 noted-other x f p [] d = rw (ne-eqb x f d)
-noted-other x f p (e ∷ es) d = byTest (λ l. notedIn x l ≡ notedIn x (e ∷ es)) (eqb f (e .frame))
+noted-other x f p (e ∷ es) d = byTest (λ l. notedIn x l ≡ notedIn x (e ∷ es)) (ltb f (e .frame)) (λ l. rw (ne-eqb x f d))
+    (λ l. byTest (λ l. notedIn x l ≡ notedIn x (e ∷ es)) (eqb f (e .frame))
     (λ q. let n : x ≢ e .frame = λ k. d (k ∙ sym (eqb-true f (e .frame) q)) in rw (ne-eqb x f d, ne-eqb x (e .frame) n))
-    (λ q. ap (cond (eqb x (e .frame)) true) (noted-other x f p es d))
+    (λ q. ap (cond (eqb x (e .frame)) true) (noted-other x f p es d)))
 
-noted-long : (f p : ℕ) (es : List Note) → length (noteChange (record { frame = f; place = p }) es) ≡ length es + cond (notedIn f es) 0 1
-unfolding notedIn noteChange
-noted-long f p [] = refl
-noted-long f p (e ∷ es) = go (eqb f (e .frame)) (noted-long f p es)
+unnoted-in : (f : ℕ) (es : List Note) → Unnoted f es → notedIn f es ≡ false
+unfolding notedIn
+unnoted-in f [] h = refl
+unnoted-in f (e ∷ es) h = rw (ne-eqb f (e .frame) (h .0)) (unnoted-in f es (h .1))
+
+noted-long : (f p : ℕ) (es : List Note) → Rises es → length (noteChange (record { frame = f; place = p }) es) ≡ length es + cond (notedIn f es) 0 1
+unfolding noteChange
+noted-long f p [] s = unfold notedIn in refl
+noted-long f p (e ∷ es) s = go (ltb f (e .frame)) (eqb f (e .frame)) refl refl (noted-long f p es (s .1))
   where
-    go : (t : Bool) → length (noteChange (record { frame = f; place = p }) es) ≡ length es + cond (notedIn f es) 0 1
-        → length (cond t (record { frame = f; place = p } ∷ es) (e ∷ noteChange (record { frame = f; place = p }) es)) ≡ suc (length es) + cond (cond t true (notedIn f es)) 0 1
-    go true h = omega arith
-    go false h = omega (arith, h)
+    -- the rest, by the test of the first
+    there : (t : Bool) → eqb f (e .frame) ≡ t → notedIn f (e ∷ es) ≡ cond t true (notedIn f es)
+    there t q = unfold notedIn in (rw q)
+
+    go : (u t : Bool) → ltb f (e .frame) ≡ u → eqb f (e .frame) ≡ t → length (noteChange (record { frame = f; place = p }) es) ≡ length es + cond (notedIn f es) 0 1
+        → length (cond u (record { frame = f; place = p } ∷ e ∷ es) (cond t (record { frame = f; place = p } ∷ es) (e ∷ noteChange (record { frame = f; place = p }) es))) ≡ suc (length es) + cond (notedIn f (e ∷ es)) 0 1
+    go true t l q h = rw (unnoted-in f (e ∷ es) (below-unnoted f e es (ltb-true f (e .frame) l) s)) (omega arith)
+    go false true l q h = rw (there true q) (omega arith)
+    go false false l q h = rw (there false q) (omega (arith, h))
 
 turn-noted : (f put i : ℕ) (es : List Note) → turnOf f put es ≡ some i → notedIn f es ≡ true
 unfolding turnOf notedIn
@@ -72,13 +86,22 @@ module _ (w : FrameBytes) (g : Generation) where
       go none = unfold queued places in (omega (arith, length-append (g .waiting) (w .bytes ∷ [])))
       go (some i) = unfold queued places in (omega (arith, length-set (g .waiting) i (w .bytes)))
 
-  pub one-entry : entryCount (changeFrame w g) ≡ entryCount g + cond (notedIn (w .frame) (g .entries)) 0 1
+  pub one-entry : Rises (g .entries) → entryCount (changeFrame w g) ≡ entryCount g + cond (notedIn (w .frame) (g .entries)) 0 1
   unfolding changeFrame
-  one-entry = go (turnOf (w .frame) (g .pagesDown) (g .entries)) refl
+  one-entry s = go (turnOf (w .frame) (g .pagesDown) (g .entries)) refl
     where
       go : (t : Option ℕ) → turnOf (w .frame) (g .pagesDown) (g .entries) ≡ t → entryCount (queued t w g) ≡ entryCount g + cond (notedIn (w .frame) (g .entries)) 0 1
-      go none e = unfold queued in (noted-long (w .frame) (places g) (g .entries))
+      go none e = unfold queued in (noted-long (w .frame) (places g) (g .entries) s)
       go (some i) e = unfold queued in (rw (turn-noted (w .frame) (g .pagesDown) i (g .entries) e) (omega arith))
+
+  -- entries still rise
+  pub one-rises : Rises (g .entries) → Rises (changeFrame w g .entries)
+  unfolding changeFrame
+  one-rises s = go (turnOf (w .frame) (g .pagesDown) (g .entries))
+    where
+      go : (t : Option ℕ) → Rises (queued t w g .entries)
+      go none = unfold queued in (rises-note _ (g .entries) s)
+      go (some i) = unfold queued in s
 
   -- a change puts nothing down
   pub one-down : changeFrame w g .pagesDown ≡ g .pagesDown
@@ -121,16 +144,16 @@ unfolding changeFrames placesNeeded
 all-places [] g d = omega arith
 all-places (w ∷ ws) g d = all-places ws (changeFrame w g) (d .1) ∙ (rw (others-places w g ws (d .0), one-place w g) (omega arith))
 
-all-entries : (ws : List FrameBytes) (g : Generation) → Distinct ws → entryCount (changeFrames ws g) ≡ entryCount g + entriesNeeded ws g
+all-entries : (ws : List FrameBytes) (g : Generation) → Distinct ws → Rises (g .entries) → entryCount (changeFrames ws g) ≡ entryCount g + entriesNeeded ws g
 unfolding changeFrames entriesNeeded
-all-entries [] g d = omega arith
-all-entries (w ∷ ws) g d = all-entries ws (changeFrame w g) (d .1) ∙ (rw (others-entries w g ws (d .0), one-entry w g) (omega arith))
+all-entries [] g d s = omega arith
+all-entries (w ∷ ws) g d s = all-entries ws (changeFrame w g) (d .1) (one-rises w g s) ∙ (rw (others-entries w g ws (d .0), one-entry w g s) (omega arith))
 
-pub same-room : (ws : List FrameBytes) (s : State) → Distinct ws → roomAsks ws s ≡ roomSums ws s
+pub same-room : (ws : List FrameBytes) (s : State) → Distinct ws → Rises (s .current .entries) → roomAsks ws s ≡ roomSums ws s
 unfolding roomAsks roomSums newPlaces afterChange size committedSize
-same-room ws s d =
+same-room ws s d o =
     let k : places (changeFrames ws (s .current)) - places (s .current) ≡ placesNeeded ws (s .current) = omega (arith, all-places ws (s .current) d) in
-    rw (k, all-places ws (s .current) d, all-entries ws (s .current) d)
+    rw (k, all-places ws (s .current) d, all-entries ws (s .current) d o)
 
 -- ---- advance
 

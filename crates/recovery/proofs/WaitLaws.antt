@@ -2,7 +2,7 @@
 -- Assumes nothing.
 use Prim.Native.Nat.{ℕ, zero, suc, _+_, _≤_, _<_}
 use borrow.Author.Tests.{eqb-true, eq-eqb, ne-eqb}
-use lib.Dec.{eqb}
+use lib.Dec.{ltb, eqb}
 use lib.ListN.{length, set, getD}
 use mathlib.Core.Bool.{cond}
 use mathlib.Core.List.{List, [], _∷_, _++_}
@@ -80,15 +80,17 @@ overlay-turn es base f (suc i) k (x ∷ xs) h is un =
 pub frame-new : (f p : ℕ) (es : List Note) → All (λ e. e .place < p) es → frameOf p (noteChange (record { frame = f; place = p }) es) ≡ f
 unfolding frameOf noteChange
 frame-new f p [] h = rw (eq-eqb p p refl)
-frame-new f p (e ∷ es) h = byTest (λ l. frameOf p l ≡ f) (eqb f (e .frame)) (λ q. rw (eq-eqb p p refl))
-    (λ q. rw (ne-eqb p (e .place) (omega (arith, h .0))) (frame-new f p es (h .1)))
+frame-new f p (e ∷ es) h = byTest (λ l. frameOf p l ≡ f) (ltb f (e .frame)) (λ l. rw (eq-eqb p p refl))
+    (λ l. byTest (λ l. frameOf p l ≡ f) (eqb f (e .frame)) (λ q. rw (eq-eqb p p refl))
+    (λ q. rw (ne-eqb p (e .place) (omega (arith, h .0))) (frame-new f p es (h .1))))
 
 pub frame-other : (f p j : ℕ) (es : List Note) → j ≢ p → All (λ e. e .frame ≡ f → e .place ≢ j) es → frameOf j (noteChange (record { frame = f; place = p }) es) ≡ frameOf j es
 unfolding frameOf noteChange
 frame-other f p j [] d h = rw (ne-eqb j p d)
-frame-other f p j (e ∷ es) d h = byTest (λ l. frameOf j l ≡ frameOf j (e ∷ es)) (eqb f (e .frame))
+frame-other f p j (e ∷ es) d h = byTest (λ l. frameOf j l ≡ frameOf j (e ∷ es)) (ltb f (e .frame)) (λ l. rw (ne-eqb j p d))
+    (λ l. byTest (λ l. frameOf j l ≡ frameOf j (e ∷ es)) (eqb f (e .frame))
     (λ q. rw (ne-eqb j p d, ne-eqb j (e .place) (λ k. h .0 (sym (eqb-true f (e .frame) q)) (sym k))))
-    (λ q. ap (cond (eqb j (e .place)) (e .frame)) (frame-other f p j es d (h .1)))
+    (λ q. ap (cond (eqb j (e .place)) (e .frame)) (frame-other f p j es d (h .1))))
 
 -- the oldest one holds the next place
 pub oldest-frame : (g : Generation) → 0 < length (g .waiting) → oldest (waitingFrames g) .frame ≡ frameOf (g .pagesDown) (g .entries)

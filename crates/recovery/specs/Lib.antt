@@ -8,3 +8,4 @@ pub mod Questions
 pub mod Sums
 pub mod Book
 pub mod Sound
+pub mod FirstChange

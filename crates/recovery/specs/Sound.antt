@@ -26,13 +26,18 @@ abbrev pub Single : List Note → Type 0
 Single [] = Unit {0}
 Single (e ∷ es) = Unnoted (e .frame) es × Single es
 
+-- by rising frame
+abbrev pub Rises : List Note → Type 0
+Rises [] = Unit {0}
+Rises (e ∷ es) = All (λ x. e .frame < x .frame) es × Rises es
+
 -- the place k is frame f's, and no other's
 abbrev pub Holds : ℕ → ℕ → List Note → Type 0
 Holds f k es = All (λ e. (e .frame ≡ f → e .place ≡ k) × (e .place ≡ k → e .frame ≡ f)) es
 
--- The entries name no frame twice and only places that are taken; every place that is not down is the last one of exactly one entry.
+-- The entries rise and name only places that are taken; every place that is not down is the last one of exactly one entry.
 pub record Ordered (g : Generation) : Type 0 where
-  pub single : Single (g .entries)
+  pub rises : Rises (g .entries)
   pub taken : All (λ e. e .place < places g) (g .entries)
   pub waits : (k : ℕ) → g .pagesDown ≤ k → k < places g → Holds (frameOf k (g .entries)) k (g .entries) × (Unnoted (frameOf k (g .entries)) (g .entries) → ⊥)
 

@@ -17,7 +17,7 @@ pub record Committed : Type 0 where
   pub places : ℕ
   pub entries : List Entry
 
--- The pending or the current generation: its first block, how many of its places are down, its entries in order of first change, and the bytes of the
+-- The pending or the current generation: its first block, how many of its places are down, its entries by rising frame, and the bytes of the
 -- places that are not down, oldest first. Place i is the block i places on from the first, from the moment it is taken. Without entries: none is pending.
 pub record Generation : Type 0 where
   pub first : ℕ
