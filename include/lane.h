@@ -79,7 +79,7 @@ extern "C" {
 #endif
 
 /* The version of this interface: the record's form, the answers and the calls' arguments. */
-#define LANE_VERSION 1
+#define LANE_VERSION 2
 
 /* The library's LANE_VERSION. With another one no answer can be trusted. */
 uint32_t lane_version(void);
@@ -175,13 +175,16 @@ typedef struct {
 } lane_geometry;
 LANE_SIZE(lane_geometry, 88);
 
+/* `count` entries by rising frame, each a frame and the place of its block: how many blocks on from the
+   generation's first it is, in the ring of blocks 1 to A. */
 typedef struct {
     size_t count;
     uint16_t frames[256];
-    uint16_t blocks[256];
+    uint8_t places[256];
 } lane_directory;
-LANE_SIZE(lane_directory, 1032);
+LANE_SIZE(lane_directory, 776);
 
+/* Entries by rising frame too, each with the last place that its frame took. */
 typedef struct {
     size_t count;
     size_t taken;
@@ -206,7 +209,7 @@ typedef struct {
     lane_changes current;
     size_t phase;
 } lane_store;
-LANE_SIZE(lane_store, 2768);
+LANE_SIZE(lane_store, 2512);
 
 /* What lane_key answers: LANE_DONE and the present count, or the refusal and 0. */
 typedef struct {

@@ -47,6 +47,7 @@ refusal-is n h e f = record {
   header-is = λ z. absurd (omega arith);
   trailer-is = λ z. absurd (omega arith);
   entries-is = λ z. absurd (omega arith);
+  places-are = λ z. absurd (omega arith);
 }
 
 pub refuse-3 : (c : List ℕ) → whole 11 65536 (length c) ≡ false → firstNo (cardAsks c) ≡ 3
@@ -108,7 +109,7 @@ module _ {c : List ℕ} {h : Header} (ok : HeaderPassed c h) where
     pub refuse-7 : trailerFits h t ≡ false → firstNo (cardAsks c) ≡ 7
     refuse-7 e = committed-asked ∙ asked-no 7 (trailerFits h t) _ e
 
-    pub directory-bounds : trailerFits h t ≡ true → (t .first ≤ h .area) × ((t .pages + dirBlocks (t .entries) ≤ h .area) × (t .entries ≤ 256))
+    pub directory-bounds : trailerFits h t ≡ true → (t .first ≤ h .area) × ((t .pages + dirBlocks (t .entries) ≤ h .area) × ((t .entries ≤ 256) × (t .pages ≤ 256)))
     directory-bounds q = omega (arith, trailer-tells h t q, passed-area .0)
 
     -- 8 is asked last
@@ -118,6 +119,6 @@ module _ {c : List ℕ} {h : Header} (ok : HeaderPassed c h) where
     last-asked b q f = committed-asked ∙ rw (q, f)
 
     -- the directory that the trailer tells of, as code reads it
-    pub directory-is : (d : Directory) → d .count ≡ t .entries → entriesOf (d .frames) (d .blocks) (t .entries) ≡ readDir c (h .area) (t .first) (t .pages) (t .entries)
-        → entriesOf (d .frames) (d .blocks) (d .count) ≡ entriesOn c
+    pub directory-is : (d : Directory) → d .count ≡ t .entries → entriesOf (h .area) (t .first) (d .frames) (d .places) (t .entries) ≡ readDir c (h .area) (t .first) (t .pages) (t .entries)
+        → entriesOf (h .area) (t .first) (d .frames) (d .places) (d .count) ≡ entriesOn c
     directory-is d count read = rw count (read ∙ sym entries-are)

@@ -1,10 +1,10 @@
 -- Directories: how a block is put, and that the whole directory is read back from its blocks.
 -- Assumes nothing.
 use Prim.Native.Nat.{ℕ, _+_, _-_, _*_, _/_, _%_, _≤_, _<_, min}
-use lib.ListN.{length, take, drop, getD, replicate, length-take, length-drop}
-use lib.Seq.{take-all, getD-take, getD-drop}
+use lib.ListN.{length, take, drop, getD, set, replicate, length-take, length-drop}
+use lib.Seq.{take-all, getD-take, getD-drop, getD-set-same, getD-set-other}
 use mathlib.Core.List.{List, [], _∷_, _++_}
-use mathlib.Core.Logic.{_⊎_, inl, inr}
+use mathlib.Core.Logic.{_⊎_, inl, inr, ⊎-elim}
 use mathlib.Core.Path.{_≡_, ap, sym, _∙_}
 use native.Mathlib.Nat.{zero-add}
 use native.Mathlib.Numerals.{add-one}
@@ -18,9 +18,9 @@ use Rattle.card.specs.Directory.{entryIn, entriesOf, entryNumbers, dirBl
 use Rattle.card.specs.Ring.{ringAt, dirBlocks}
 use Rattle.card.specs.declared.directory.Entry.{Entry}
 
-pub entries-length : (fs bs : List ℕ) (n : ℕ) → length (entriesOf fs bs n) ≡ n
+pub entries-length : (area first : ℕ) (fs ps : List ℕ) (n : ℕ) → length (entriesOf area first fs ps n) ≡ n
 unfolding entriesOf
-entries-length fs bs n = tab-length (entryIn fs bs) 0 n
+entries-length area first fs ps n = tab-length (entryIn area first fs ps) 0 n
 
 abbrev frameOf : Entry → ℕ
 frameOf e = e .frame
@@ -34,35 +34,35 @@ dirBlock-length es j = pad-length _ (simp (words-length, pairs-length frameOf bl
 
 -- ---- how a block is put
 
-module _ (fs bs : List ℕ) (from : ℕ) where
+module _ (area first : ℕ) (fs ps : List ℕ) (from : ℕ) where
   -- the bytes of k entries
   abbrev pub frontBytes : ℕ → List ℕ
-  frontBytes k = words (entryNumbers (tabulate (entryIn fs bs) from k))
+  frontBytes k = words (entryNumbers (tabulate (entryIn area first fs ps) from k))
 
   front-length : (k : ℕ) → length (frontBytes k) ≡ 8 * k
-  front-length k = words-length (entryNumbers (tabulate (entryIn fs bs) from k)) ∙ omega (arith, pairs-length frameOf blockOf (tabulate (entryIn fs bs) from k), tab-length (entryIn fs bs) from k)
+  front-length k = words-length (entryNumbers (tabulate (entryIn area first fs ps) from k)) ∙ omega (arith, pairs-length frameOf blockOf (tabulate (entryIn area first fs ps) from k), tab-length (entryIn area first fs ps) from k)
 
   -- one turn of the loop that puts them
-  pub front-more : (k f b : ℕ) → k < 64 → f ≡ getD fs (from + k) 0 → b ≡ getD bs (from + k) 0 → patch (patch zeros 0 (frontBytes k)) (8 * k) (words (f ∷ b ∷ [])) ≡ patch zeros 0 (frontBytes (k + 1))
+  pub front-more : (k f b : ℕ) → k < 64 → f ≡ getD fs (from + k) 0 → b ≡ ringAt area first (getD ps (from + k) 0) → patch (patch zeros 0 (frontBytes k)) (8 * k) (words (f ∷ b ∷ [])) ≡ patch zeros 0 (frontBytes (k + 1))
   unfolding pairs
   front-more k f b h p q =
       let long : length (words (f ∷ b ∷ [])) ≡ 8 = words-length (f ∷ b ∷ []) in
       patch-on zeros (frontBytes k) (words (f ∷ b ∷ [])) (8 * k) (front-length k) (omega (arith, zeros-length))
-      ∙ ap (patch zeros 0) (sym (words-append (entryNumbers (tabulate (entryIn fs bs) from k)) (f ∷ b ∷ []))
-      ∙ ap words (rw (p, q, add-one, tab-snoc (entryIn fs bs) from k) (sym (pairs-append frameOf blockOf (tabulate (entryIn fs bs) from k) (entryIn fs bs (from + k) ∷ [])))))
+      ∙ ap (patch zeros 0) (sym (words-append (entryNumbers (tabulate (entryIn area first fs ps) from k)) (f ∷ b ∷ []))
+      ∙ ap words (rw (p, q, add-one, tab-snoc (entryIn area first fs ps) from k) (sym (pairs-append frameOf blockOf (tabulate (entryIn area first fs ps) from k) (entryIn area first fs ps (from + k) ∷ [])))))
 
 -- its end
-pub front-all : (fs bs : List ℕ) (count j : ℕ) → 64 * j ≤ count → patch zeros 0 (frontBytes fs bs (64 * j) (min 64 (count - 64 * j))) ≡ dirBlock (entriesOf fs bs count) j
+pub front-all : (area first : ℕ) (fs ps : List ℕ) (count j : ℕ) → 64 * j ≤ count → patch zeros 0 (frontBytes area first fs ps (64 * j) (min 64 (count - 64 * j))) ≡ dirBlock (entriesOf area first fs ps count) j
 unfolding dirBlock entriesOf
-front-all fs bs count j h =
-    zeros-patch (frontBytes fs bs (64 * j) (min 64 (count - 64 * j)))
-    ∙ ap (λ (l : List Entry). pad (words (entryNumbers l))) (sym (rw (tab-drop (entryIn fs bs) 0 count (64 * j) h, zero-add) (taken (le-or-lt 64 (count - 64 * j)))))
+front-all area first fs ps count j h =
+    zeros-patch (frontBytes area first fs ps (64 * j) (min 64 (count - 64 * j)))
+    ∙ ap (λ (l : List Entry). pad (words (entryNumbers l))) (sym (rw (tab-drop (entryIn area first fs ps) 0 count (64 * j) h, zero-add) (taken (le-or-lt 64 (count - 64 * j)))))
   where
-    taken : (64 ≤ count - 64 * j) ⊎ (count - 64 * j < 64) → take 64 (tabulate (entryIn fs bs) (64 * j) (count - 64 * j)) ≡ tabulate (entryIn fs bs) (64 * j) (min 64 (count - 64 * j))
-    taken (inl k) = let e : min 64 (count - 64 * j) ≡ 64 = omega arith in rw e (tab-take (entryIn fs bs) (64 * j) (count - 64 * j) 64 k)
+    taken : (64 ≤ count - 64 * j) ⊎ (count - 64 * j < 64) → take 64 (tabulate (entryIn area first fs ps) (64 * j) (count - 64 * j)) ≡ tabulate (entryIn area first fs ps) (64 * j) (min 64 (count - 64 * j))
+    taken (inl k) = let e : min 64 (count - 64 * j) ≡ 64 = omega arith in rw e (tab-take (entryIn area first fs ps) (64 * j) (count - 64 * j) 64 k)
     taken (inr k) =
         let e : min 64 (count - 64 * j) ≡ count - 64 * j = omega arith in
-        rw e (take-all 64 (tabulate (entryIn fs bs) (64 * j) (count - 64 * j)) (omega (arith, tab-length (entryIn fs bs) (64 * j) (count - 64 * j))))
+        rw e (take-all 64 (tabulate (entryIn area first fs ps) (64 * j) (count - 64 * j)) (omega (arith, tab-length (entryIn area first fs ps) (64 * j) (count - 64 * j))))
 
 -- ---- that it is read back
 
@@ -114,10 +114,21 @@ readDir-same c d area first p n same =
 
 -- ---- code's directory, read and asked about
 
-pub entries-filled : (fs bs : List ℕ) (f : ℕ → Entry) (n : ℕ) → Filled (λ i. f i .frame) n fs → Filled (λ i. f i .block) n bs → entriesOf fs bs n ≡ tabulate f 0 n
-unfolding entriesOf
-entries-filled fs bs f n p q = tab-same (entryIn fs bs) f 0 n
-    (λ i a b. let x = p i (omega arith) in let y = q i (omega arith) in λ j. record { frame = x j; block = y j })
+-- the places of the first n entries: below p, and each that of the entry's block
+abbrev pub PlacesFilled : ℕ → ℕ → ℕ → (ℕ → Entry) → ℕ → List ℕ → Type 0
+PlacesFilled area first p f n ps = (i : ℕ) → i < n → (ringAt area first (getD ps i 0) ≡ f i .block) × (getD ps i 0 < p)
+
+module _ (area first p : ℕ) (f : ℕ → Entry) where
+  pub places-more : (n : ℕ) (ps : List ℕ) (x : ℕ) → n < length ps → ringAt area first x ≡ f n .block → x < p → PlacesFilled area first p f n ps → PlacesFilled area first p f (n + 1) (set ps n x)
+  places-more n ps x h e l given i q = ⊎-elim
+      (λ k. let s : i ≡ n = omega arith in rw (s, getD-set-same ps n x 0 h) (e, l))
+      (λ k. rw (getD-set-other ps n i x 0 (omega arith)) (given i k))
+      (le-or-lt n i)
+
+  pub entries-filled : (fs ps : List ℕ) (n : ℕ) → Filled (λ i. f i .frame) n fs → PlacesFilled area first p f n ps → entriesOf area first fs ps n ≡ tabulate f 0 n
+  unfolding entriesOf
+  entries-filled fs ps n frames places = tab-same (entryIn area first fs ps) f 0 n
+      (λ i a b. let x = frames i (omega arith) in let y = places i (omega arith) .0 in λ j. record { frame = x j; block = y j })
 
 -- one turn of a loop over entries
 pub entry-next : (f : ℕ → Entry) (i n x y : ℕ) → i < n → x ≡ f i .frame → y ≡ f i .block → tabulate f i (n - i) ≡ record { frame = x; block = y } ∷ tabulate f (i + 1) (n - (i + 1))

@@ -1,21 +1,18 @@
 -- Laws of the first "no", of question 8 asked entry by entry, and what questions 4 to 7 tell.
 -- Assumes nothing.
-use Prim.Native.Nat.{ℕ, zero, suc, _+_, _-_, _≤_, _<_}
-use borrow.Author.Tests.{leb-true, ltb-true, lt-ltb, eqb-true, ne-eqb}
+use Prim.Native.Nat.{ℕ, suc, _+_, _-_, _≤_, _<_}
+use borrow.Author.Tests.{leb-true, ltb-true, eqb-true, ne-eqb}
 use lib.Dec.{leb, ltb, eqb}
-use lib.ListN.{getD}
-use mathlib.Core.Bool.{Bool, true, false, cond, _&&_, and-true, and-assoc}
+use mathlib.Core.Bool.{Bool, true, false, cond, _&&_}
 use mathlib.Core.List.{List, [], _∷_, _++_}
 use mathlib.Core.Logic.{_≢_}
 use mathlib.Core.Path.{_≡_, refl, ap, sym, _∙_}
 use native.Mathlib.Decide.{ℕ-discrete}
-use native.Mathlib.Nat.{add-zero, zero-add}
 use native.Mathlib.Omega.{arith}
 use Rattle.card.proofs.RingLaws.{size-some}
-use Rattle.card.proofs.Test.{both, and-swap, implied, each-at, each-both}
-use Rattle.card.specs.Bytes.{tabulate, each, All}
-use Rattle.card.specs.Directory.{entryIn, entriesOf}
-use Rattle.card.specs.Question.{Question, ask, firstNo, headerRanges, commitFits, headerAsks, endsAt, trailerFits, entryFits, entriesFit, rising, inArea, among}
+use Rattle.card.proofs.Test.{both}
+use Rattle.card.specs.Bytes.{each, All}
+use Rattle.card.specs.Question.{Question, ask, firstNo, headerRanges, commitFits, headerAsks, endsAt, trailerFits, entryFits, entriesFit}
 use Rattle.card.specs.Range.{geometryFits}
 use Rattle.card.specs.Ring.{ringAt, ringOffset, half, dirBlocks, generationSize}
 use Rattle.card.specs.declared.directory.Entry.{Entry}
@@ -101,70 +98,6 @@ entry-tells blocks area first p low e h =
 pub fit-end : (blocks area first p low : ℕ) (l : List Entry) → l ≡ [] → entriesFit blocks area first p low l ≡ true
 unfolding entriesFit
 fit-end blocks area first p low l e = rw e
-
--- of entries in two arrays, array by array
-module _ (blocks area first p : ℕ) (fs bs : List ℕ) where
-  abbrev above : ℕ → Bool
-  above i = ltb (getD fs (i - 1) 0) (getD fs i 0)
-
-  abbrev home : ℕ → Bool
-  home i = ltb (getD fs i 0) blocks
-
-  abbrev least : ℕ → Bool
-  least i = leb 1 (getD bs i 0)
-
-  abbrev most : ℕ → Bool
-  most i = leb (getD bs i 0) area
-
-  abbrev near : ℕ → Bool
-  near i = ltb (ringOffset area first (getD bs i 0)) p
-
-  -- an entry without its frame's place in the order
-  abbrev alone : ℕ → Bool
-  alone i = home i && (least i && (most i && near i))
-
-  alone-each : (n : ℕ) → each alone 0 n ≡ each home 0 n && (each least 0 n && (each most 0 n && each near 0 n))
-  alone-each n = each-both home (λ i. least i && (most i && near i)) 0 n
-      ∙ ap (λ (r : Bool). each home 0 n && r) (each-both least (λ i. most i && near i) 0 n ∙ ap (λ (r : Bool). each least 0 n && r) (each-both most near 0 n))
-
-  -- those behind entry i
-  behind : (i n : ℕ) → entriesFit blocks area first p (getD fs i 0) (tabulate (entryIn fs bs) (suc i) n) ≡ each above (suc i) n && each alone (suc i) n
-  unfolding entriesFit entryFits tabulate each
-  behind i zero = refl
-  behind i (suc n) =
-      let e : suc i - 1 ≡ i = omega arith in
-      rw (e, behind (suc i) n) (and-swap (ltb (getD fs i 0) (getD fs (suc i) 0)) (alone (suc i)) (each above (suc (suc i)) n) (each alone (suc (suc i)) n))
-
-  -- of frames that rise the last tells that all are home blocks
-  last-home : (i n : ℕ) → each above (suc i) n ≡ true → each home i (suc n) ≡ home (i + n)
-  unfolding each
-  last-home i zero h = rw add-zero (and-true (home i))
-  last-home i (suc n) h =
-      let b : suc i - 1 ≡ i = omega arith in
-      let e : i + suc n ≡ suc i + n = omega arith in
-      let r = both (above (suc i)) _ h in
-      let up : getD fs i 0 < getD fs (suc i) 0 = ltb-true _ _ (rw b at (r .0)) in
-      rw e (implied (home i) _ (λ q. let next = ltb-true (getD fs (suc i) 0) blocks (both (home (suc i)) _ q .0) in lt-ltb (getD fs i 0) blocks (omega arith)) ∙ last-home (suc i) n (r .1))
-
-  pub fit-arrays : (low n : ℕ) → 0 < n
-      → entriesFit blocks area first p low (entriesOf fs bs n) ≡ rising fs n && (ltb low (getD fs 0 0) && (ltb (getD fs (n - 1) 0) blocks && (inArea area bs n && among area first p bs n)))
-  unfolding entriesOf entriesFit entryFits tabulate each
-  fit-arrays low zero h = absurd (omega arith)
-  fit-arrays low (suc n) h =
-      let e : suc n - 1 ≡ n = omega arith in
-      rw (e, behind 0 n) (and-swap (ltb low (getD fs 0 0)) (alone 0) (each above 1 n) (each alone 1 n)
-      ∙ ap (λ (r : Bool). (ltb low (getD fs 0 0) && each above 1 n) && r) (alone-each (suc n))
-      ∙ regroup (ltb low (getD fs 0 0)) (each above 1 n) (each home 0 (suc n)) (each least 0 (suc n)) (each most 0 (suc n)) (each near 0 (suc n)) (home n) (λ r. rw zero-add at (last-home 0 n r)))
-    where
-      regroup : (a r b c d e last : Bool) → (r ≡ true → b ≡ last) → (a && r) && (b && (c && (d && e))) ≡ r && (a && (last && ((c && d) && e)))
-      regroup true true b c d e last h = rw (h refl, and-assoc c d e)
-      regroup false true b c d e last h = refl
-      regroup true false b c d e last h = refl
-      regroup false false b c d e last h = refl
-
--- blocks of the area are at most A
-pub in-area-at : (area : ℕ) (l : List ℕ) (n k : ℕ) → inArea area l n ≡ true → k < n → getD l k 0 ≤ area
-in-area-at area l n k h b = leb-true _ _ (each-at (λ i. leb (getD l i 0) area) 0 n k (both (each (λ i. leb 1 (getD l i 0)) 0 n) _ h .1) (omega arith) (omega arith))
 
 -- ---- what questions 4 to 7 tell
 

@@ -22,6 +22,13 @@ from-cases area first n h = byTest (λ k. ((first ≤ n) × (k + first ≡ n)) �
     (λ e. let l : first ≤ n = leb-true _ _ e in inl (l, omega arith))
     (λ e. let l : n < first = leb-false _ _ e in inr (l, omega arith))
 
+-- a block of the area stands where its position tells
+pub on-from : (area first n : ℕ) → first ≤ area → 1 ≤ n → n ≤ area → ringAt area first (ringOffset area first n) ≡ n
+on-from area first n h l k = elim (from-cases area first n h) [
+  | inl p ↦ elim (on-cases area first (ringOffset area first n)) [ inl q ↦ omega arith | inr q ↦ omega arith ]
+  | inr p ↦ elim (on-cases area first (ringOffset area first n)) [ inl q ↦ omega arith | inr q ↦ omega arith ]
+]
+
 module _ (area first : ℕ) (low : 1 ≤ first) (high : first ≤ area) where
   pub on-in : (i : ℕ) → i ≤ area → (1 ≤ ringAt area first i) × (ringAt area first i ≤ area)
   on-in i h = elim (on-cases area first i) [ inl p ↦ omega arith | inr p ↦ omega arith ]

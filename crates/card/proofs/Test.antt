@@ -26,15 +26,10 @@ pub joined : (a b : Bool) → a ≡ true → b ≡ true → a && b ≡ true
 joined true b p q = q
 joined false b p q = p
 
-pub and-swap : (a b c d : Bool) → (a && b) && (c && d) ≡ (a && c) && (b && d)
+and-swap : (a b c d : Bool) → (a && b) && (c && d) ≡ (a && c) && (b && d)
 and-swap true true c d = refl
 and-swap true false c d = sym (and-false c)
 and-swap false b c d = refl
-
--- the first tells nothing that the second does not tell
-pub implied : (a b : Bool) → (b ≡ true → a ≡ true) → a && b ≡ b
-implied a true h = rw (h refl)
-implied a false h = and-false a
 
 -- what code's `!` of a test tells of its definition
 module _ {q r : Bool} (e : r ≡ q) where

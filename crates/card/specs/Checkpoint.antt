@@ -6,7 +6,7 @@ use mathlib.Core.Bool.{true}
 use mathlib.Core.List.{List}
 use mathlib.Core.Path.{_≡_}
 use Rattle.card.specs.Block.{blockAt, whole}
-use Rattle.card.specs.Directory.{entriesOf}
+use Rattle.card.specs.Directory.{entriesOf, PlacesBelow}
 use Rattle.card.specs.Header.{headerOn}
 use Rattle.card.specs.Question.{firstNo, headerAsks, committedOn, entriesOn, cardAsks}
 use Rattle.card.specs.declared.checkpoint.Checkpoint.{Checkpoint}
@@ -17,7 +17,8 @@ pub record Recovered (c : List ℕ) (r : Checkpoint) : Type 0 where
   pub number : r .refusal ≡ firstNo (cardAsks c)
   pub header-is : r .refusal ≡ 0 → r .header ≡ headerOn (blockAt c 0)
   pub trailer-is : r .refusal ≡ 0 → r .trailer ≡ committedOn c
-  pub entries-is : r .refusal ≡ 0 → entriesOf (r .directory .frames) (r .directory .blocks) (r .directory .count) ≡ entriesOn c
+  pub entries-is : r .refusal ≡ 0 → entriesOf (r .header .area) (r .trailer .first) (r .directory .frames) (r .directory .places) (r .directory .count) ≡ entriesOn c
+  pub places-are : r .refusal ≡ 0 → PlacesBelow (r .trailer .pages) (r .directory .count) (r .directory .places)
 
 -- a card whose header h has passed questions 3 to 6
 pub record HeaderPassed (c : List ℕ) (h : Header) : Type 0 where

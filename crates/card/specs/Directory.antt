@@ -6,7 +6,7 @@
 --
 -- 64 entries fill a block, unused bytes are zero. The directory's blocks follow the generation's p page blocks in the ring.
 -- Assumes nothing.
-use Prim.Native.Nat.{ℕ, _+_, _*_, _/_, _%_}
+use Prim.Native.Nat.{ℕ, _+_, _*_, _/_, _%_, _<_}
 use lib.ListN.{take, drop, getD}
 use mathlib.Core.List.{List}
 use Rattle.card.specs.Block.{blockAt}
@@ -14,12 +14,16 @@ use Rattle.card.specs.Bytes.{tabulate, pairs, getU32, words, pad}
 use Rattle.card.specs.Ring.{ringAt}
 use Rattle.card.specs.declared.directory.Entry.{Entry}
 
--- entries held in two arrays: entry i, and the first n
-abbrev pub entryIn : List ℕ → List ℕ → ℕ → Entry
-entryIn frames blocks i = record { frame = getD frames i 0; block = getD blocks i 0 }
+-- entries held in two arrays, of frames and of places: entry i, and the first n; place i is the block i on from the generation's first
+abbrev pub entryIn : ℕ → ℕ → List ℕ → List ℕ → ℕ → Entry
+entryIn area first frames places i = record { frame = getD frames i 0; block = ringAt area first (getD places i 0) }
 
-unfoldable pub entriesOf : List ℕ → List ℕ → ℕ → List Entry
-entriesOf frames blocks n = tabulate (entryIn frames blocks) 0 n
+unfoldable pub entriesOf : ℕ → ℕ → List ℕ → List ℕ → ℕ → List Entry
+entriesOf area first frames places n = tabulate (entryIn area first frames places) 0 n
+
+-- the first n places are below p
+abbrev pub PlacesBelow : ℕ → ℕ → List ℕ → Type 0
+PlacesBelow p n places = (i : ℕ) → i < n → getD places i 0 < p
 
 abbrev pub entryNumbers : List Entry → List ℕ
 entryNumbers es = pairs (λ (e : Entry). e .frame) (λ (e : Entry). e .block) es

@@ -4,9 +4,8 @@ use mathlib.Core.Bool.{Bool, true, cond, _&&_}
 use mathlib.Core.List.{List, [], _∷_, _++_}
 use Prim.Native.Nat.{ℕ, _-_, _/_}
 use lib.Dec.{ltb, leb, eqb}
-use lib.ListN.{length, getD}
+use lib.ListN.{length}
 use Rattle.card.specs.Block.{blockAt, whole}
-use Rattle.card.specs.Bytes.{each}
 use Rattle.card.specs.Ring.{ringAt, ringOffset, half, generationSize}
 use Rattle.card.specs.Range.{Range, rangesOf, geometryFits}
 use Rattle.card.specs.Header.{headerOn}
@@ -60,18 +59,6 @@ entryFits blocks area first p low e =
 unfoldable pub entriesFit : ℕ → ℕ → ℕ → ℕ → ℕ → List Entry → Bool
 entriesFit blocks area first p low [] = true
 entriesFit blocks area first p low (e ∷ es) = entryFits blocks area first p low e && entriesFit blocks area first p (e .frame) es
-
--- 8, array by array, of the first n entries in two arrays: each frame is above the one before it
-abbrev pub rising : List ℕ → ℕ → Bool
-rising frames n = each (λ i. ltb (getD frames (i - 1) 0) (getD frames i 0)) 1 (n - 1)
-
--- each block is in 1 to A
-abbrev pub inArea : ℕ → List ℕ → ℕ → Bool
-inArea area blocks n = each (λ i. leb 1 (getD blocks i 0)) 0 n && each (λ i. leb (getD blocks i 0) area) 0 n
-
--- each block is among the p page blocks from first on
-abbrev pub among : ℕ → ℕ → ℕ → List ℕ → ℕ → Bool
-among area first p blocks n = each (λ i. ltb (ringOffset area first (getD blocks i 0)) p) 0 n
 
 -- The committed generation that a card tells of, by its trailer. With commit 0 there is none, and the first generation starts at block 1.
 unfoldable pub committedOn : List ℕ → Trailer

@@ -15,8 +15,8 @@ pub fn at(area: usize, first: usize, i: usize) -> usize
     n - area
 }
 
-// How many places on from first block n stands. In 16 bits, since question 8 asks it of every entry of a record.
-pub fn offset(area: u16, first: u16, n: u16) -> u16
+// How many places on from first block n stands.
+pub fn offset(area: usize, first: usize, n: usize) -> usize
     requires { ⌜ (area ≤ 512) × ((first ≤ area) × (n ≤ area)) ⌝ }
     ensures { λ r. ⌜ r ≡ ringOffset area first n ⌝ }
 {

@@ -13,7 +13,6 @@ use native.Mathlib.Omega.{arith}
 use Rattle.card.proofs.DirectoryLaws.{entries-length}
 use Rattle.card.proofs.QuestionLaws.{none-asked, asked-yes, asked-no}
 use Rattle.card.proofs.Test.{byTest}
-use Rattle.card.specs.Directory.{entriesOf}
 use Rattle.card.specs.Question.{firstNo}
 use Rattle.card.specs.Ring.{dirBlocks}
 use Rattle.frames.proofs.KeepLaws.{kept-refused, kept-done, done-tells}
@@ -24,7 +23,7 @@ use Rattle.frames.specs.declared.answer.Wrote.{Wrote}
 use Rattle.record.proofs.Held.{Held}
 use Rattle.record.proofs.SoundLaws.{notes-length, queue-length, phase-owed}
 use Rattle.record.specs.Holds.{holdsTogether}
-use Rattle.record.specs.Meaning.{waits, notesOf, phaseOf, stateOf}
+use Rattle.record.specs.Meaning.{waits, notesOf, committedOf, phaseOf, stateOf}
 use Rattle.record.specs.declared.store.Store.{Store}
 use Rattle.recovery.specs.Questions.{given, advanceAsks}
 use Rattle.recovery.specs.Step.{Kind, page, directory, trailer, migration, header, flush, kindWrite, kindPut, afterKind, migrationDue, advanceDue, migrating}
@@ -107,8 +106,8 @@ module _ (s : Store) (m : List ℕ) where
   e-is : length (notesOf (s .pending)) ≡ s .pending .count
   e-is = notes-length (s .pending)
 
-  committed-is : length (entriesOf (s .committed .frames) (s .committed .blocks) (s .committed .count)) ≡ s .committed .count
-  committed-is = entries-length (s .committed .frames) (s .committed .blocks) (s .committed .count)
+  committed-is : length (committedOf s .entries) ≡ s .committed .count
+  committed-is = entries-length (s .geometry .area) (s .first) (s .committed .frames) (s .committed .places) (s .committed .count)
 
   left : (other : Option Kind) → s .migrated < s .committed .count → migrationDue (stateOf s m) other ≡ some migration
   unfolding migrationDue

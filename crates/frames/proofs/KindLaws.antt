@@ -4,43 +4,34 @@ use Prim.Native.Nat.{ℕ, _+_, _≤_, _<_}
 use borrow.Author.Tests.{lt-ltb, le-ltb, ne-eqb}
 use lib.ListN.{length, getD}
 use mathlib.Core.Bool.{true}
-use mathlib.Core.List.{List, []}
+use mathlib.Core.List.{List}
 use mathlib.Core.Logic.{_≢_}
 use mathlib.Core.Path.{_≡_, refl, ap, sym, _∙_}
 use native.Mathlib.Nat.{add-zero, zero-add}
 use native.Mathlib.Numerals.{add-one}
 use native.Mathlib.Omega.{arith}
-use Rattle.card.proofs.AllLaws.{all-map}
 use Rattle.card.proofs.BytesLaws.{tab-getD}
 use Rattle.card.proofs.RingLaws.{on-on, ring-high, size-some}
 use Rattle.card.specs.Block.{blockAt, putBlock}
-use Rattle.card.specs.Bytes.{All}
-use Rattle.card.specs.Directory.{entryIn, entriesOf, dirBlock}
+use Rattle.card.specs.Directory.{entryIn, entriesOf, PlacesBelow, dirBlock}
 use Rattle.card.specs.Header.{headerBlock}
-use Rattle.card.specs.Question.{entriesFit}
 use Rattle.card.specs.Range.{rangesOf}
-use Rattle.card.specs.Ring.{ringAt, half, dirBlocks, generationSize}
+use Rattle.card.specs.Ring.{ringAt, half, dirBlocks}
 use Rattle.card.specs.Trailer.{trailerBlock}
-use Rattle.card.specs.declared.directory.Directory.{Directory}
 use Rattle.frames.proofs.ReadyLaws.{firsts}
-use Rattle.frames.proofs.RisingLaws.{dir-inside}
-use Rattle.frames.specs.Parts.{Sorted, KindDone, StepDone}
+use Rattle.frames.proofs.RisingLaws.{directory-as-held}
+use Rattle.frames.specs.Parts.{KindDone, StepDone}
 use Rattle.frames.specs.Promise.{passing}
 use Rattle.record.proofs.Held.{Held, together, bounds}
-use Rattle.record.proofs.NoneLaws.{NoChange, none-means, none-size, none-waits}
-use Rattle.record.proofs.SoundLaws.{notes-length, ordered, listed-home, queue-length, entry-inside}
-use Rattle.record.proofs.Tests.{each-within, apart-once}
+use Rattle.record.proofs.NoneLaws.{NoChange, none-means, none-size, none-waits, none-listed}
+use Rattle.record.proofs.SoundLaws.{notes-length, ordered, queue-length, place-low, entry-inside}
 use Rattle.record.specs.Holds.{tailFor, holdsTogether}
-use Rattle.record.specs.Lists.{cells, once, allWithin}
 use Rattle.record.specs.Meaning.{waits, sizeOf, notesOf, committedSizeOf, queueOf, pendingFirst, currentFirst, phaseOf, stateOf}
 use Rattle.record.specs.declared.store.Changes.{Changes}
 use Rattle.record.specs.declared.store.Store.{Store}
-use Rattle.recovery.proofs.Accept.{entries-ok}
-use Rattle.recovery.proofs.NoteLaws.{rising-byFrame}
 use Rattle.recovery.proofs.OrderedLaws.{long-waiting, same-count}
 use Rattle.recovery.proofs.Sorted.{countOf}
-use Rattle.recovery.specs.Directory.{downEntries, dirOf}
-use Rattle.recovery.specs.Sound.{Home}
+use Rattle.recovery.specs.Directory.{dirOf}
 use Rattle.recovery.specs.State.{directoryOf, empty, owed}
 use Rattle.recovery.specs.Step.{Kind, directory, trailer, migration, header, flush, tailBytes, trailerBlockNo, nextMigration, kindWrite, afterKind}
 
@@ -124,21 +115,20 @@ module _ (s : Store) (h : Held s) where
     }
 
     -- M copies the entry's block to its frame
-    pub home-write : (home from : ℕ) → home ≡ getD (s .committed .frames) (s .migrated) 0 → from ≡ getD (s .committed .blocks) (s .migrated) 0 → (card m : List ℕ)
+    pub home-write : (home from : ℕ) → home ≡ getD (s .committed .frames) (s .migrated) 0 → from ≡ ringAt (s .geometry .area) (s .first) (getD (s .committed .places) (s .migrated) 0) → (card m : List ℕ)
         → kindWrite migration (stateOf s m) card ≡ record { block = home; bytes = blockAt card from }
     unfolding kindWrite nextMigration entriesOf
     home-write home from p q card m =
-        rw (p, q, tab-getD (entryIn (s .committed .frames) (s .committed .blocks)) 0 (s .committed .count) (s .migrated) _ more, zero-add (s .migrated)) refl
+        rw (p, q, tab-getD (entryIn (s .geometry .area) (s .first) (s .committed .frames) (s .committed .places)) 0 (s .committed .count) (s .migrated) _ more, zero-add (s .migrated)) refl
 
     -- a block of the area goes to a home block
-    pub home-inside : (getD (s .committed .blocks) (s .migrated) 0 ≤ s .geometry .area) × (getD (s .committed .frames) (s .migrated) 0 < s .geometry .blocks)
+    pub home-inside : (ringAt (s .geometry .area) (s .first) (getD (s .committed .places) (s .migrated) 0) ≤ s .geometry .area) × (getD (s .committed .frames) (s .migrated) 0 < s .geometry .blocks)
     home-inside = entry-inside s h (s .migrated) more
 
--- ---- a pending generation
+    pub home-fits : (s .geometry .area ≤ 512) × ((s .first ≤ s .geometry .area) × (getD (s .committed .places) (s .migrated) 0 ≤ s .geometry .area))
+    home-fits = (bounds s h .area-high, (h .first-high, omega (arith, place-low s h (s .migrated) more)))
 
--- its places are below any number that is not below those taken
-places-within : (s : Store) → Held s → (n : ℕ) → s .pending .taken ≤ n → allWithin 0 n (cells (s .pending .places) 0 (s .pending .count)) ≡ true
-places-within s h n l = each-within 0 n (λ k. getD (s .pending .places) k 0) 0 (s .pending .count) (λ i a k. (omega arith, omega (arith, h .pending .taken i (omega arith))))
+-- ---- a pending generation
 
 module _ (s : Store) (h : Held s) (any : 0 < s .pending .count) where
   -- pages, directory and trailer take at most half the area
@@ -146,34 +136,31 @@ module _ (s : Store) (h : Held s) (any : 0 < s .pending .count) where
   pending-room = omega (arith, h .half-pending, size-some (s .pending .taken) (s .pending .count) (omega (arith, any)))
 
   module _ (first : ℕ) (at-first : first ≡ pendingFirst s) where
-    -- what the sort of its entries rests on
-    pub sortable : (s .geometry .area ≤ 512)
-        × ((first ≤ s .geometry .area)
-        × ((s .pending .count < 256) × ((once (cells (s .pending .frames) 0 (s .pending .count)) ≡ true) × (allWithin 0 (s .geometry .area) (cells (s .pending .places) 0 (s .pending .count)) ≡ true))))
-    sortable =
+    -- what a block of its directory rests on
+    pub directory-fits : (s .geometry .area ≤ 512) × ((first ≤ s .geometry .area) × ((s .pending .count ≤ 256) × PlacesBelow (s .geometry .area) (s .pending .count) (s .pending .places)))
+    directory-fits =
         let b = bounds s h in
-        let frames = apart-once (λ k. getD (s .pending .frames) k 0) 0 (s .pending .count) (λ i j a l k. h .pending .single i j l (omega arith)) in
-        (b .area-high, (omega (arith, at-first, firsts s h .pending-in .1), (omega (arith, pending-room, b .area-high, h .pending-few), (frames, places-within s h (s .geometry .area) (omega (arith, pending-room))))))
+        (b .area-high, (omega (arith, at-first, firsts s h .pending-in .1), (b .pending-small, λ i l. omega (arith, h .pending .filed .taken i l, pending-room))))
 
     -- the i-th block behind its pages
     module _ (i : ℕ) (most : i ≤ dirBlocks (s .pending .count)) where
       pub behind-fits : (s .geometry .area ≤ 512) × ((first ≤ s .geometry .area) × (s .pending .taken + i ≤ s .geometry .area))
-      behind-fits = (sortable .0, (sortable .1 .0, omega (arith, pending-room, most)))
+      behind-fits = (directory-fits .0, (directory-fits .1 .0, omega (arith, pending-room, most)))
 
       pub behind-inside : (to : ℕ) → to ≡ ringAt (s .geometry .area) first (s .pending .taken + i) → to ≤ s .geometry .area
       behind-inside to e = rw e (ring-high (s .geometry .area) first (s .pending .taken + i) (behind-fits .1 .0) (behind-fits .1 .1))
 
 -- ---- the record after H: the pending generation is the committed one, and e is pending
 
-abbrev pub committedTo : Store → ℕ → Directory → Changes → Store
-committedTo s first d e = record {
+abbrev pub committedTo : Store → ℕ → Changes → Store
+committedTo s first e = record {
   frames = s .frames;
   head = s .head;
   geometry = s .geometry;
   commit = s .commit + 1;
   first = first;
   pages = s .pending .taken;
-  committed = d;
+  committed = record { count = s .pending .count; frames = s .pending .frames; places = s .pending .places };
   migrated = 0;
   pending = e;
   tail = 0;
@@ -200,10 +187,9 @@ module _ (s : Store) (h : Held s) (still : waits (s .pending) ≡ 0) (any : 0 < 
       let o = ordered (pendingFirst s) (g .waiting) (s .pending) long (h .pending-down) (h .pending) in
       omega (arith, same-count (s .geometry .area) g o, long-waiting g, long, still, notes-length (s .pending))
 
-  -- the sorted one has them
-  sorted-is : (first : ℕ) (d : Directory) → Sorted (s .geometry .area) first (s .pending .frames) (s .pending .places) (s .pending .count) d
-      → entriesOf (d .frames) (d .blocks) (d .count) ≡ dirOf (s .geometry .area) first (s .pending .taken) (notesOf (s .pending))
-  sorted-is first d r = r .entries-are (s .pending .taken) (places-within s h (s .pending .taken) (omega arith))
+  -- as they are held
+  entries-are : (first : ℕ) → entriesOf (s .geometry .area) first (s .pending .frames) (s .pending .places) (s .pending .count) ≡ dirOf (s .geometry .area) first (s .pending .taken) (notesOf (s .pending))
+  entries-are first = sym (directory-as-held (s .geometry .area) first (s .pending .frames) (s .pending .places) (s .pending .taken) (s .pending .count) (h .pending .filed .rises) (h .pending .filed .taken))
 
   -- ---- D and T
 
@@ -213,12 +199,10 @@ module _ (s : Store) (h : Held s) (still : waits (s .pending) ≡ 0) (any : 0 < 
   trailer-write last first to e q card m =
       rw (q, e, directory-length m, le-ltb (s .tail) (dirBlocks (s .pending .count)) (omega (arith, last)), all-down, add-one (s .commit)) refl
 
-  pub directory-write : s .tail < dirBlocks (s .pending .count) → (first to : ℕ) (d : Directory) → first ≡ pendingFirst s → to ≡ ringAt (s .geometry .area) first (s .pending .taken + s .tail)
-      → Sorted (s .geometry .area) first (s .pending .frames) (s .pending .places) (s .pending .count) d → (card m : List ℕ)
-      → kindWrite directory (stateOf s m) card ≡ record { block = to; bytes = dirBlock (entriesOf (d .frames) (d .blocks) (d .count)) (s .tail) }
+  pub directory-write : s .tail < dirBlocks (s .pending .count) → (first to : ℕ) → first ≡ pendingFirst s → to ≡ ringAt (s .geometry .area) first (s .pending .taken + s .tail) → (card m : List ℕ)
+      → kindWrite directory (stateOf s m) card ≡ record { block = to; bytes = dirBlock (entriesOf (s .geometry .area) first (s .pending .frames) (s .pending .places) (s .pending .count)) (s .tail) }
   unfolding kindWrite tailBytes
-  directory-write more first to d e q r card m =
-      rw (q, sorted-is first d r, e, directory-length m, lt-ltb (s .tail) (dirBlocks (s .pending .count)) more, directory-is m, all-down) refl
+  directory-write more first to e q card m = rw (q, entries-are first, e, directory-length m, lt-ltb (s .tail) (dirBlocks (s .pending .count)) more, directory-is m, all-down) refl
 
   -- ---- H
 
@@ -227,49 +211,33 @@ module _ (s : Store) (h : Held s) (still : waits (s .pending) ≡ 0) (any : 0 < 
   unfolding kindWrite trailerBlockNo
   header-write first to e q card m = rw (q, e, directory-length m, all-down, add-one (s .commit)) refl
 
-  -- with the sorted directory, and a generation without a change
-  module _ (first : ℕ) (d : Directory) (e : Changes) (at-first : first ≡ pendingFirst s) (r : Sorted (s .geometry .area) first (s .pending .frames) (s .pending .places) (s .pending .count) d) (z : NoChange e) where
-    -- the sorted directory passes question 8
-    sorted-fits : entriesFit (s .geometry .blocks) (s .geometry .area) first (s .pending .taken) (s .geometry .area) (entriesOf (d .frames) (d .blocks) (d .count)) ≡ true
-    unfolding directoryOf
-    sorted-fits =
-        let area = s .geometry .area in
-        let blocks = s .geometry .blocks in
-        let es = dirOf area first (s .pending .taken) (notesOf (s .pending)) in
-        let in-area = firsts s h .pending-in in
-        let home : All (Home area blocks) es = rw all-down at (listed-home area blocks first [] (s .pending) (sym still) tt (h .pending) .0) in
-        rw (sorted-is first d r) (entries-ok blocks area first (s .pending .taken) area es (all-map (Home area blocks) (λ x. area < x .frame) es (λ x p. p .0) home) home
-        (dir-inside area first (s .pending .taken) (omega (arith, at-first, in-area .0)) (omega (arith, at-first, in-area .1)) (omega (arith, pending-room s h any)) (notesOf (s .pending)))
-        (unfold dirOf in (rising-byFrame (downEntries area first (s .pending .taken) (notesOf (s .pending))))))
-
-    size-same : generationSize (s .pending .taken) (d .count) ≡ sizeOf (s .pending)
-    size-same = ap (generationSize (s .pending .taken)) (r .count-is)
-
+  -- with a generation without a change
+  module _ (first : ℕ) (e : Changes) (at-first : first ≡ pendingFirst s) (z : NoChange e) where
     -- the next generation starts where the current one does
-    next-first : ringAt (s .geometry .area) first (generationSize (s .pending .taken) (d .count)) ≡ currentFirst s
-    next-first = rw (at-first, size-same) (on-on (s .geometry .area) (s .first) (h .first-low) (h .first-high) (committedSizeOf s) (sizeOf (s .pending)) (omega (arith, h .room)))
+    next-first : ringAt (s .geometry .area) first (sizeOf (s .pending)) ≡ currentFirst s
+    next-first = rw at-first (on-on (s .geometry .area) (s .first) (h .first-low) (h .first-high) (committedSizeOf s) (sizeOf (s .pending)) (omega (arith, h .room)))
 
-    same-first : ringAt (s .geometry .area) first (generationSize (s .pending .taken) (d .count) + sizeOf e) ≡ currentFirst s
-    same-first = rw (none-size e z, add-zero (generationSize (s .pending .taken) (d .count))) next-first
+    same-first : ringAt (s .geometry .area) first (sizeOf (s .pending) + sizeOf e) ≡ currentFirst s
+    same-first = rw (none-size e z, add-zero (sizeOf (s .pending))) next-first
 
-    commit-held : Held (committedTo s first d e)
+    commit-held : Held (committedTo s first e)
     commit-held = record {
       geometry = h .geometry;
       first-low = omega (arith, at-first, firsts s h .pending-in .0);
       first-high = omega (arith, at-first, firsts s h .pending-in .1);
       none-committed = λ q. absurd (omega (arith, q));
-      some-committed = λ l. omega (arith, r .count-is, any);
-      committed-few = omega (arith, r .count-is, h .pending-few);
+      some-committed = λ l. omega (arith, any);
+      committed-few = h .pending-few;
       commit-limit = λ l. absurd (omega (arith, l, z .count));
       pending-few = omega (arith, z .count);
       pending-down = omega (arith, z .down);
       none-pending = λ q. z .taken;
       current-few = h .current-few;
       current-down = h .current-down;
-      half-committed = rw size-same (h .half-pending);
+      half-committed = h .half-pending;
       half-pending = omega (arith, none-size e z);
       half-current = h .half-current;
-      room = rw (size-same, none-size e z) (omega (arith, h .room));
+      room = rw (none-size e z) (omega (arith, h .room));
       migrated-within = omega arith;
       tail-within = omega arith;
       tail-after = λ l. none-waits e z;
@@ -278,17 +246,12 @@ module _ (s : Store) (h : Held s) (still : waits (s .pending) ≡ 0) (any : 0 < 
       owed-before = λ o. (refl, refl);
       head-low = h .head-low;
       seated = omega (arith, none-waits e z, still, h .seated);
-      committed = sorted-fits;
-      pending = record {
-        home = λ i l. absurd (omega (arith, l, z .count));
-        single = λ i j k l. absurd (omega (arith, l, z .count));
-        taken = λ i l. absurd (omega (arith, l, z .count));
-        stands = λ k a b. absurd (omega (arith, b, z .taken));
-      };
+      committed = h .pending .filed;
+      pending = none-listed e z (s .geometry .area) (s .geometry .blocks);
       current = h .current;
     }
 
-    pub commit-step : StepDone (afterKind header) s (committedTo s first d e)
+    pub commit-step : StepDone (afterKind header) s (committedTo s first e)
     unfolding afterKind empty phaseOf
     commit-step = record {
       meaning = λ m i. record {
@@ -304,16 +267,16 @@ module _ (s : Store) (h : Held s) (still : waits (s .pending) ≡ 0) (any : 0 < 
         current = record { first = same-first i; pagesDown = s .current .down; entries = notesOf (s .current); waiting = queue m i };
         phase = owed;
       };
-      together = together (committedTo s first d e) commit-held;
+      together = together (committedTo s first e) commit-held;
     }
       where
         put-down : s .pending .taken ≡ s .pending .down
         put-down = sym all-down
 
-        entries : (m : List ℕ) → entriesOf (d .frames) (d .blocks) (d .count) ≡ directoryOf (s .geometry .area) (stateOf s m .pending)
-        entries m = rw (directory-is m, ← at-first) (sorted-is first d r)
+        entries : (m : List ℕ) → entriesOf (s .geometry .area) first (s .pending .frames) (s .pending .places) (s .pending .count) ≡ directoryOf (s .geometry .area) (stateOf s m .pending)
+        entries m = rw (directory-is m, ← at-first) (entries-are first)
 
-        pending : (m : List ℕ) → stateOf (committedTo s first d e) m .pending ≡ empty (currentFirst s)
+        pending : (m : List ℕ) → stateOf (committedTo s first e) m .pending ≡ empty (currentFirst s)
         pending m = none-means e z _ 0 _ ∙ ap empty next-first
 
         queue : (m : List ℕ) → queueOf s m (waits e) (waits (s .current)) ≡ queueOf s m (waits (s .pending)) (waits (s .current))

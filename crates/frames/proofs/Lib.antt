@@ -7,6 +7,7 @@ pub mod StartLaws
 pub mod RisingLaws
 pub mod KindLaws
 pub mod LoadLaws
+pub mod InsertLaws
 pub mod NeedLaws
 pub mod TakeLaws
 pub mod ChangeLaws

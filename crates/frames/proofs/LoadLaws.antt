@@ -22,7 +22,7 @@ use Rattle.frames.specs.declared.answer.Found.{Found}
 use Rattle.record.proofs.Held.{Listed, Held, held, bounds}
 use Rattle.record.proofs.ListLaws.{first-none, first-found}
 use Rattle.record.proofs.SeatLaws.{seat-low}
-use Rattle.record.proofs.SoundLaws.{frame-is, same-index, queue-length, entry-inside, sound}
+use Rattle.record.proofs.SoundLaws.{frame-is, same-index, queue-length, place-low, entry-inside, sound}
 use Rattle.record.specs.Holds.{holdsTogether}
 use Rattle.record.specs.Lists.{First}
 use Rattle.record.specs.Meaning.{waits, noteIn, notesOf, seatAt, queueOf, generationOf, committedOf, pendingFirst, currentFirst, stateOf}
@@ -88,7 +88,7 @@ module _ {area blocks : ℕ} {g : Changes} (h : Listed area blocks g) (first : �
   shows-waiting : i < g .count → g .down ≤ getD (g .places) i 0 → overlay (waitingFrames generation) stored f ≡ getD w (getD (g .places) i 0 - g .down) []
   unfolding waitingFrames
   shows-waiting c l =
-      let m : getD (g .places) i 0 < g .taken = h .taken i c in
+      let m : getD (g .places) i 0 < g .taken = h .filed .taken i c in
       let e : g .down + (getD (g .places) i 0 - g .down) ≡ getD (g .places) i 0 = omega arith in
       overlay-turn (notesOf g) stored f (getD (g .places) i 0 - g .down) (g .down) w (omega arith) (rw e (frame-is h (getD (g .places) i 0) i l m c refl ∙ found .is c))
       (λ j a b q. absurd (omega (arith, place-of c j a (omega arith) q)))
@@ -106,25 +106,30 @@ at-memory s bytes n h e = record { there = e; in-memory = λ q. h; on-card = λ 
 
 -- committed, over home
 module _ (s : Store) {f i : ℕ} (found : First (s .committed .frames) (s .committed .count) f i) where
-  over-entry : (n j : ℕ) → j < i → f ≢ getD (s .committed .frames) j 0 → (xs : List Entry) → lookup f xs ≡ n → lookup f (entryIn (s .committed .frames) (s .committed .blocks) j ∷ xs) ≡ n
+  over-entry : (n j : ℕ) → j < i → f ≢ getD (s .committed .frames) j 0 → (xs : List Entry) → lookup f xs ≡ n → lookup f (entryIn (s .geometry .area) (s .first) (s .committed .frames) (s .committed .places) j ∷ xs) ≡ n
   over-entry n j l d xs e = lookup-miss f _ xs d ∙ e
 
   -- no entry: the home block
   pub at-home : (n : ℕ) → i ≡ s .committed .count → n ≡ f → f < s .geometry .blocks → Located s (committedBytes s f) (record { memory = false; number = n })
   unfolding entriesOf lookup
   at-home n e q l = at-card s (committedBytes s f) n (omega arith) (λ card memory. ap (blockAt card) q ∙ sym (overlay-lookup card (committedOf s .entries) (blockAt card) f ∙ ap (shown card (blockAt card f))
-      (first-none (λ j xs. lookup f xs ≡ 0) (entryIn (s .committed .frames) (s .committed .blocks)) (s .committed .frames) (s .committed .count) f i found (over-entry 0) e refl)))
+      (first-none (λ j xs. lookup f xs ≡ 0) (entryIn (s .geometry .area) (s .first) (s .committed .frames) (s .committed .places)) (s .committed .frames) (s .committed .count) f i found (over-entry 0) e refl)))
 
-  -- an entry: its area block
-  pub at-committed : Held s → (n : ℕ) → i ≢ s .committed .count → n ≡ getD (s .committed .blocks) i 0 → Located s (committedBytes s f) (record { memory = false; number = n })
+  -- an entry: its place is one of the ring
+  pub committed-fits : Held s → i ≢ s .committed .count → {place : ℕ} → place ≡ getD (s .committed .places) i 0
+      → (s .geometry .area ≤ 512) × ((s .first ≤ s .geometry .area) × (place ≤ s .geometry .area))
+  committed-fits h d e = (bounds s h .area-high, (h .first-high, omega (arith, e, place-low s h i (omega (arith, found .most)))))
+
+  -- and its area block
+  pub at-committed : Held s → (n : ℕ) → i ≢ s .committed .count → n ≡ ringAt (s .geometry .area) (s .first) (getD (s .committed .places) i 0) → Located s (committedBytes s f) (record { memory = false; number = n })
   unfolding entriesOf
   at-committed h n d q =
       let c : i < s .committed .count = omega (arith, found .most) in
       let inside = entry-inside s h i c in
-      let b : ℕ = getD (s .committed .blocks) i 0 in
+      let b : ℕ = ringAt (s .geometry .area) (s .first) (getD (s .committed .places) i 0) in
       at-card s (committedBytes s f) n (omega (arith, inside .0, bounds s h .area-inside)) (λ card memory. ap (blockAt card) q ∙ sym (overlay-lookup card (committedOf s .entries) (blockAt card) f ∙ ap (shown card (blockAt card f))
-      (first-found (λ j xs. lookup f xs ≡ suc b) (entryIn (s .committed .frames) (s .committed .blocks)) (s .committed .frames) (s .committed .count) f i found (over-entry (suc b)) c
-      (λ xs. rw (← found .is c) (lookup-hit (entryIn (s .committed .frames) (s .committed .blocks) i) xs)))))
+      (first-found (λ j xs. lookup f xs ≡ suc b) (entryIn (s .geometry .area) (s .first) (s .committed .frames) (s .committed .places)) (s .committed .frames) (s .committed .count) f i found (over-entry (suc b)) c
+      (λ xs. rw (← found .is c) (lookup-hit (entryIn (s .geometry .area) (s .first) (s .committed .frames) (s .committed .places) i) xs)))))
 
 -- a generation whose first block is `first`, and before whose waiting frames `ahead` others wait
 pub record Placed (s : Store) (g : Changes) (first ahead : ℕ) : Type 0 where
@@ -187,7 +192,7 @@ module _ {s : Store} {g : Changes} {first ahead : ℕ} (placed : Placed s g firs
 
     module _ {place : ℕ} (is : place ≡ getD (g .places) i 0) where
       place-in : (place < g .taken) × (place ≤ s .geometry .area)
-      place-in = let l = placed .listed .taken i inner in (omega arith, omega (arith, placed .inside (omega (arith, inner))))
+      place-in = let l = placed .listed .filed .taken i inner in (omega arith, omega (arith, placed .inside (omega (arith, inner))))
 
       module _ (from : ℕ) (start : from ≡ first) where
         pub ring-in : (s .geometry .area ≤ 512) × ((from ≤ s .geometry .area) × (place ≤ s .geometry .area))
@@ -233,7 +238,7 @@ module _ (s : Store) (m c : List ℕ) (r : Ready s (length m) (length c)) (f : �
   unfolding directoryOf dirOf
   over-whole {g} {first} p w whole base below =
       let area = s .geometry .area in
-      let taken : All (λ e. e .place ≤ area) (notesOf g) = all-tab _ (noteIn (g .frames) (g .places)) 0 (g .count) (λ k a b. omega (arith, p .listed .taken k (omega (arith, b)), p .inside (omega (arith, b)))) in
+      let taken : All (λ e. e .place ≤ area) (notesOf g) = all-tab _ (noteIn (g .frames) (g .places)) 0 (g .count) (λ k a b. omega (arith, p .listed .filed .taken k (omega (arith, b)), p .inside (omega (arith, b)))) in
       let down = down-inside area first (p .first-in) (g .down) (notesOf g) taken in
       let stored = stored-whole c area _ (r .card-is) low (dirOf area first (g .down) (notesOf g)) (all-byFrame (λ e. e .block ≤ area) (downEntries area first (g .down) (notesOf g)) down) in
       let waiting = all-map (WholeFrame area (s .geometry .blocks)) (λ x. length (x .bytes) ≡ 512) (waitingFrames (generationOf first w g)) (λ x h. h .0) whole in

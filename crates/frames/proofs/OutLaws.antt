@@ -27,7 +27,7 @@ abbrev pub oneDown : Changes → Changes
 oneDown g = record { count = g .count; taken = g .taken; down = g .down + 1; frames = g .frames; places = g .places }
 
 listed-out : (area blocks : ℕ) (g : Changes) → Listed area blocks g → Listed area blocks (oneDown g)
-listed-out area blocks g l = record { home = l .home; single = l .single; taken = l .taken; stands = λ k p q. l .stands k (omega arith) q }
+listed-out area blocks g l = record { filed = l .filed; stands = λ k p q. l .stands k (omega arith) q }
 
 tail-any : (e : ℕ) → 0 < e → 0 < tailFor e
 unfolding tailFor

@@ -9,28 +9,33 @@ use mathlib.Core.Path.{_≡_, refl, ap, sym, _∙_}
 use native.Mathlib.Decide.{ℕ-discrete}
 use native.Mathlib.Nat.{add-zero}
 use native.Mathlib.Omega.{arith}
+use Rattle.card.proofs.AllLaws.{tab-all}
 use Rattle.card.proofs.BytesLaws.{tab-length}
-use Rattle.card.proofs.CheckpointLaws.{whole-tells, uncommitted-is, uncommitted-entries}
+use Rattle.card.proofs.CheckpointLaws.{whole-tells, uncommitted-is}
 use Rattle.card.proofs.DirectoryLaws.{entries-length}
-use Rattle.card.proofs.QuestionLaws.{passed-both, fit-end, header-tells, trailer-tells, groups-passed, header-numbered}
+use Rattle.card.proofs.QuestionLaws.{passed-both, header-tells, trailer-tells, groups-passed, header-numbered}
 use Rattle.card.proofs.RangeLaws.{geometry-tells}
 use Rattle.card.proofs.RingLaws.{size-some}
 use Rattle.card.specs.Block.{blockAt, whole}
 use Rattle.card.specs.Checkpoint.{HeaderPassed}
-use Rattle.card.specs.Directory.{entriesOf, readDir}
+use Rattle.card.specs.Directory.{entryIn, entriesOf, readDir}
 use Rattle.card.specs.Header.{headerOn}
 use Rattle.card.specs.Question.{ask, firstNo, headerRanges, headerAsks, trailerFits, entriesFit, committedOn, entriesOn, generationAsks, cardAsks}
 use Rattle.card.specs.Range.{geometryFits}
 use Rattle.card.specs.Ring.{ringAt, half, generationSize}
 use Rattle.card.specs.declared.checkpoint.Checkpoint.{Checkpoint}
+use Rattle.card.specs.declared.directory.Entry.{Entry}
 use Rattle.card.specs.declared.trailer.Trailer.{Trailer}
+use Rattle.frames.proofs.RisingLaws.{frames-rise}
 use Rattle.frames.specs.Parts.{Startable, Started}
-use Rattle.record.proofs.Held.{Held, together}
+use Rattle.record.proofs.Held.{Filed, Held, together}
 use Rattle.record.proofs.NoneLaws.{NoChange, none-means, none-size, none-listed}
 use Rattle.record.proofs.SoundLaws.{committed-size}
 use Rattle.record.specs.Meaning.{waits, committedOf, pendingFirst, currentFirst, phaseOf, stateOf}
 use Rattle.record.specs.declared.store.Changes.{Changes}
 use Rattle.record.specs.declared.store.Store.{Store}
+use Rattle.recovery.proofs.Accept.{entries-told}
+use Rattle.recovery.specs.Sound.{Home}
 use Rattle.recovery.specs.State.{committedSize, empty, owed}
 use Rattle.recovery.specs.Step.{startCommitted, startState}
 
@@ -58,12 +63,16 @@ module _ (memory card : List ℕ) (c : Checkpoint) (ok : Startable memory card c
   trailer-is : c .trailer ≡ committedOn card
   trailer-is = ok .read .trailer-is (ok .passed)
 
-  entries-is : entriesOf (c .directory .frames) (c .directory .blocks) (c .directory .count) ≡ entriesOn card
+  -- its entries, as the record has them
+  abbrev entries : List Entry
+  entries = entriesOf (c .header .area) (c .trailer .first) (c .directory .frames) (c .directory .places) (c .directory .count)
+
+  entries-is : entries ≡ entriesOn card
   entries-is = ok .read .entries-is (ok .passed)
 
   count-is : c .directory .count ≡ c .trailer .entries
   unfolding entriesOn readDir
-  count-is = sym (entries-length (c .directory .frames) (c .directory .blocks) (c .directory .count)) ∙ ap length entries-is ∙ tab-length _ 0 (committedOn card .entries) ∙ ap (λ (t : Trailer). t .entries) (sym trailer-is)
+  count-is = sym (entries-length (c .header .area) (c .trailer .first) (c .directory .frames) (c .directory .places) (c .directory .count)) ∙ ap length entries-is ∙ tab-length _ 0 (committedOn card .entries) ∙ ap (λ (t : Trailer). t .entries) (sym trailer-is)
 
   -- ---- what was asked
 
@@ -82,10 +91,23 @@ module _ (memory card : List ℕ) (c : Checkpoint) (ok : Startable memory card c
     some : 0 < c .header .commit → 1 ≤ c .directory .count
     few : c .directory .count ≤ c .trailer .pages
     half-fits : generationSize (c .trailer .pages) (c .directory .count) ≤ half (c .header .area)
-    fits : entriesFit (length card / 512) (c .header .area) (c .trailer .first) (c .trailer .pages) (c .header .area) (entriesOf (c .directory .frames) (c .directory .blocks) (c .directory .count)) ≡ true
+    filed : Filed (c .header .area) (length card / 512) (c .trailer .pages) (c .directory .frames) (c .directory .places) (c .directory .count)
 
   geometry : geometryFits (length card / 512) (c .header .area) (headerRanges (c .header)) ≡ true
   geometry = header-tells (length card / 512) (c .header) (asked .0 .passed) .geometry
+
+  -- question 8 in the record's arrays
+  fits-filed : entriesFit (length card / 512) (c .header .area) (c .trailer .first) (c .trailer .pages) (c .header .area) entries ≡ true
+      → Filed (c .header .area) (length card / 512) (c .trailer .pages) (c .directory .frames) (c .directory .places) (c .directory .count)
+  unfolding entriesOf
+  fits-filed e =
+      let area = c .header .area in
+      let t = entries-told (length card / 512) area (c .trailer .first) (c .trailer .pages) area entries (omega arith) e in
+      record {
+        home = λ i l. tab-all (Home area (length card / 512)) (entryIn area (c .trailer .first) (c .directory .frames) (c .directory .places)) 0 (c .directory .count) (t .1 .0) i (omega arith) (omega arith);
+        rises = frames-rise area (c .trailer .first) (c .directory .frames) (c .directory .places) (c .directory .count) (t .1 .1 .1);
+        taken = ok .read .places-are (ok .passed);
+      }
 
   told : Told
   unfolding generationAsks generationSize
@@ -104,10 +126,10 @@ module _ (memory card : List ℕ) (c : Checkpoint) (ok : Startable memory card c
             some = λ l. absurd (omega arith);
             few = omega (arith, count);
             half-fits = rw count (omega arith);
-            fits = fit-end _ _ _ _ _ _ (entries-is ∙ uncommitted-entries (asked .0) z);
+            filed = record { home = λ i l. absurd (omega (arith, count)); rises = λ i j l k. absurd (omega (arith, count)); taken = λ i l. absurd (omega (arith, count)) };
           }
       go (no d) =
-          let rest : firstNo (ask 7 (trailerFits (c .header) (c .trailer)) ∷ ask 8 (entriesFit (length card / 512) (c .header .area) (c .trailer .first) (c .trailer .pages) (c .header .area) (entriesOf (c .directory .frames) (c .directory .blocks) (c .directory .count))) ∷ []) ≡ 0 =
+          let rest : firstNo (ask 7 (trailerFits (c .header) (c .trailer)) ∷ ask 8 (entriesFit (length card / 512) (c .header .area) (c .trailer .first) (c .trailer .pages) (c .header .area) entries) ∷ []) ≡ 0 =
           rw (← header-is, ← trailer-is, ← entries-is, ne-eqb (c .header .commit) 0 d) at (asked .1) in
           let q = passed-both 6 (trailerFits (c .header) (c .trailer)) _ rest in
           let t = trailer-tells (c .header) (c .trailer) (q .0) in
@@ -118,7 +140,7 @@ module _ (memory card : List ℕ) (c : Checkpoint) (ok : Startable memory card c
             some = λ l. rw count-is (t .some);
             few = rw count-is (t .few);
             half-fits = rw (count-is, size-some (c .trailer .pages) (c .trailer .entries) (t .some)) (t .size);
-            fits = passed-both 7 _ _ (q .1) .0;
+            filed = fits-filed (passed-both 7 _ _ (q .1) .0);
           }
 
   module _ (p q : Changes) (p-none : NoChange p) (q-none : NoChange q) where
@@ -183,7 +205,7 @@ module _ (memory card : List ℕ) (c : Checkpoint) (ok : Startable memory card c
           owed-before = λ o. (refl, refl);
           head-low = omega (arith, long .1 .0);
           seated = omega (arith, p-none .taken, q-none .taken);
-          committed = told .fits;
+          committed = told .filed;
           pending = none-listed p p-none (c .header .area) (length card / 512);
           current = none-listed q q-none (c .header .area) (length card / 512);
         }

@@ -9,23 +9,21 @@ use mathlib.Core.Path.{_≡_}
 use Rattle.card.specs.Block.{blockAt, putBlock, whole}
 use Rattle.card.specs.Bytes.{tabulate}
 use Rattle.card.specs.Checkpoint.{Recovered}
-use Rattle.card.specs.Directory.{entriesOf}
 use Rattle.card.specs.Question.{firstNo}
 use Rattle.card.specs.declared.checkpoint.Checkpoint.{Checkpoint}
-use Rattle.card.specs.declared.directory.Directory.{Directory}
 use Rattle.frames.specs.Promise.{lent, commonAsks, change, FrameKept, numbered}
 use Rattle.frames.specs.declared.answer.Found.{Found}
 use Rattle.frames.specs.declared.answer.Need.{Need}
 use Rattle.frames.specs.declared.answer.Wrote.{Wrote}
 use Rattle.frames.specs.declared.answer.Size.{Size}
 use Rattle.record.specs.Holds.{holdsTogether}
-use Rattle.record.specs.Lists.{cells, once, allWithin}
-use Rattle.record.specs.Meaning.{notesIn, committedOf, stateOf}
+use Rattle.record.specs.Lists.{once, allWithin}
+use Rattle.record.specs.Meaning.{committedOf, stateOf}
 use Rattle.record.specs.declared.store.Changes.{Changes}
 use Rattle.record.specs.declared.store.Store.{Store}
 use Rattle.recovery.specs.Book.{WholeFrame}
 use Rattle.recovery.specs.Contents.{FrameBytes, overlay, storedFrames}
-use Rattle.recovery.specs.Directory.{Note, dirOf}
+use Rattle.recovery.specs.Directory.{Note}
 use Rattle.recovery.specs.Questions.{roomAsks}
 use Rattle.recovery.specs.State.{State, directoryOf, waitingFrames, readFrame}
 use Rattle.recovery.specs.Step.{afterChange, Kind, kindWrite, afterKind, startState, migrating}
@@ -141,6 +139,13 @@ pub record ChangeDone (s : Store) (memory : List ℕ) (ws : List FrameBytes) (t 
   pub together : holdsTogether t ≡ true
   pub long : length after ≡ length memory
 
+-- of n elements those from the i-th on stand one place higher, and x stands at i
+pub record Inserted (l : List ℕ) (n i x : ℕ) (r : List ℕ) : Type 0 where
+  pub lower : (j : ℕ) → j < i → getD r j 0 ≡ getD l j 0
+  pub here : getD r i 0 ≡ x
+  pub higher : (j : ℕ) → i ≤ j → j < n → getD r (j + 1) 0 ≡ getD l j 0
+  pub long : length r ≡ 256
+
 -- frames with their bytes: their names, and 512 bytes for each in turn
 abbrev pub framesWith : List ℕ → List ℕ → List FrameBytes
 framesWith names bytes = tabulate (λ k. record { frame = getD names k 0; bytes = blockAt bytes k }) 0 (length names)
@@ -160,30 +165,6 @@ pub record Changing (s : Store) (memory names bytes : List ℕ) : Type 0 where
 abbrev pub ChangeKept : Store → List ℕ → List ℕ → List ℕ → ℕ → Store → List ℕ → Type 0
 ChangeKept s memory names bytes n t after = (card : List ℕ) → firstNo (commonAsks s (length memory) (length card)) ≡ 0
     → FrameKept (change (framesWith names bytes)) (lent s memory card) (numbered n) (lent t after card)
-
--- ---- the pending directory by rising frame
-
--- the first n elements rise
-abbrev pub Rises : List ℕ → ℕ → Type 0
-Rises l n = (i j : ℕ) → i < j → j < n → getD l i 0 < getD l j 0
-
--- the first place of n at which more than x stands, or n
-pub record Above (l : List ℕ) (n x i : ℕ) : Type 0 where
-  pub most : i ≤ n
-  pub more : i < n → x < getD l i 0
-  pub before : (j : ℕ) → j < i → getD l j 0 ≤ x
-
--- of n elements those from the i-th on stand one place higher, and x stands at i
-pub record Inserted (l : List ℕ) (n i x : ℕ) (r : List ℕ) : Type 0 where
-  pub lower : (j : ℕ) → j < i → getD r j 0 ≡ getD l j 0
-  pub here : getD r i 0 ≡ x
-  pub higher : (j : ℕ) → i ≤ j → j < n → getD r (j + 1) 0 ≡ getD l j 0
-  pub long : length r ≡ 256
-
--- entries in two arrays as a directory, whatever number of places is put down, if it is all of theirs
-pub record Sorted (area first : ℕ) (frames places : List ℕ) (count : ℕ) (d : Directory) : Type 0 where
-  pub entries-are : (put : ℕ) → allWithin 0 put (cells places 0 count) ≡ true → entriesOf (d .frames) (d .blocks) (d .count) ≡ dirOf area first put (notesIn frames places count)
-  pub count-is : d .count ≡ count
 
 -- ---- start
 

@@ -1,9 +1,9 @@
 // The writes that advance makes after the waiting frames: directory, trailer, migration and header.
 use super::answer::Wrote;
 use super::place;
-use super::rising;
 use card::block;
 use card::directory;
+use card::directory::Directory;
 use card::header;
 use card::ring;
 use card::trailer;
@@ -38,8 +38,14 @@ pub fn directory_block(s: Store, card: &mut [u8]) -> Wrote
 {
     let first = place::pending_first(s);
     let g = s.pending;
-    let d = rising::sorted(s.geometry.area, first, &g.frames, &g.places, g.count);
-    let bytes = directory::block(&d.frames, &d.blocks, d.count, s.tail);
+    let bytes = directory::block(
+        s.geometry.area,
+        first,
+        &g.frames,
+        &g.places,
+        g.count,
+        s.tail,
+    );
     let to = ring::at(s.geometry.area, first, s.pending.taken + s.tail);
     block::put(card, to, &bytes);
     let t = tail_down(s);
@@ -79,7 +85,7 @@ pub fn migrate(s: Store, card: &mut [u8]) -> Wrote
     let i = s.migrated;
     let d = s.committed;
     let home = list::at(&d.frames, i);
-    let from = list::at(&d.blocks, i);
+    let from = ring::at(s.geometry.area, s.first, list::place_at(&d.places, i));
     block::copy(card, from, home);
     let next = i + 1;
     let mut t = s;
@@ -90,14 +96,20 @@ pub fn migrate(s: Store, card: &mut [u8]) -> Wrote
     }
 }
 
-// The pending generation is the committed one, and a flush is owed.
+// The pending generation is the committed one, its directory as it stands, and a flush is owed.
 fn commit(s: Store) -> Store
     requires { ⌜ (holdsTogether s ≡ true) × ((waits (s .pending) ≡ 0) × (0 < s .pending .count)) ⌝ }
     ensures { λ t. ⌜ StepDone (afterKind header) s t ⌝ }
 {
     let first = place::pending_first(s);
     let g = s.pending;
-    let d = rising::sorted(s.geometry.area, first, &g.frames, &g.places, g.count);
+    let frames = g.frames;
+    let places = g.places;
+    let d = Directory {
+        count: g.count,
+        frames: frames,
+        places: places,
+    };
     let next = s.commit + 1;
     let mut t = s;
     t.commit = next;

@@ -7,6 +7,5 @@ pub mod load;
 pub mod page_out;
 mod place;
 pub mod question;
-mod rising;
 pub mod snapshot;
 pub mod start;

@@ -29,8 +29,8 @@ fn in_committed(s: Store, frame: u16) -> Found
             number: home,
         };
     }
-    let blocks = s.committed.blocks;
-    let to = list::at(&blocks, i);
+    let places = s.committed.places;
+    let to = ring::at(s.geometry.area, s.first, list::place_at(&places, i));
     Found {
         memory: false,
         number: to,

@@ -16,7 +16,7 @@ use Rattle.recovery.specs.Step.{Kind, page, directory, trailer, migration, head
 -- the version of the linked interface, as include/lane.h has it: raised when the record's form, an answer or a call's
 -- arguments change
 abbrev pub version : ℕ
-version = 1
+version = 2
 
 -- what C gets of a call: a number; read's number and its buffer after the call; key's refusal and count; page-out's and
 -- advance's kind, refusal and block

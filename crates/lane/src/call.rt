@@ -29,7 +29,7 @@ ghost use Rattle.lane.specs.Linked.{version, number, filling, present, r
 pub extern "C" fn lane_version() -> u32
     ensures { λ r. ⌜ r ≡ version ⌝ }
 {
-    1
+    2
 }
 
 // Format takes no record.

@@ -13,6 +13,7 @@ use Rattle.pages.specs.Plain.{blankGeneration, blank, touched}
 use Rattle.recovery.specs.Contents.{FrameBytes}
 use Rattle.recovery.specs.Directory.{noteChange, turnOf}
 use Rattle.recovery.specs.Questions.{newPlaces, roomAsks, advanceAsks}
+use Rattle.recovery.specs.Sound.{Rises}
 use Rattle.recovery.specs.State.{Generation, State, places, entryCount, size, directoryOf, empty}
 use Rattle.recovery.specs.Step.{pendingTo, currentTo, queued, changeFrame, changeFrames, afterChange, afterSnapshot, Kind, page, directory, trailer, migration, header, flush, outOf, afterKind, migrationDue, advanceDue, migrating, afterPageOut}
 use Rattle.recovery.specs.Sums.{leading, passedTo}
@@ -103,6 +104,10 @@ module _ (s : State) where
   pub blank-advanceAsks : advanceAsks (blank s) ≡ advanceAsks s
   unfolding advanceAsks
   blank-advanceAsks = rw blank-due
+
+  pub blank-rises : Rises (s .current .entries) → Rises (blank s .current .entries)
+  unfolding blank blankGeneration
+  blank-rises up = up
 
   -- ---- what a call makes of it
 

@@ -90,7 +90,7 @@ passed-none s card t is e = λ memory. sym (passed-early (over (lent s memory ca
 
 module _ (s : Store) (card : List ℕ) where
   entries-long : length (committedOf s .entries) ≡ s .committed .count
-  entries-long = entries-length (s .committed .frames) (s .committed .blocks) (s .committed .count)
+  entries-long = entries-length (s .geometry .area) (s .first) (s .committed .frames) (s .committed .places) (s .committed .count)
 
   none : Entry
   none = record { frame = 0; block = 0 }
@@ -99,7 +99,7 @@ module _ (s : Store) (card : List ℕ) where
     -- its frame
     frame-is : getD (committedOf s .entries) i none .frame ≡ getD (s .committed .frames) i 0
     unfolding entriesOf
-    frame-is = rw (tab-getD (entryIn (s .committed .frames) (s .committed .blocks)) 0 (s .committed .count) i none more, zero-add i) refl
+    frame-is = rw (tab-getD (entryIn (s .geometry .area) (s .first) (s .committed .frames) (s .committed .places)) 0 (s .committed .count) i none more, zero-add i) refl
 
     next-is : drop i (committedOf s .entries) ≡ getD (committedOf s .entries) i none ∷ drop (suc i) (committedOf s .entries)
     next-is = drop-cons (committedOf s .entries) i none (omega (arith, more, entries-long))

@@ -14,18 +14,19 @@ use Rattle.card.specs.Question.{firstNo}
 use Rattle.card.specs.Range.{Range}
 use Rattle.card.specs.Ring.{ringAt}
 use Rattle.card.specs.declared.range.Address.{Address}
-use Rattle.pages.proofs.BlankLaws.{blankFrames, blank-waits, blank-room, blank-due, blank-passed, blank-advanceAsks}
+use Rattle.pages.proofs.BlankLaws.{blankFrames, blank-waits, blank-room, blank-rises, blank-due, blank-passed, blank-advanceAsks}
 use Rattle.pages.specs.Page.{flagged, writeFrames, rescindFrames}
 use Rattle.pages.specs.Plain.{Row, Plain, blankGeneration, blank, touched, writeTouches, rescindTouches, isNone, phaseAfter, ledgerOf, plainAsks, plainOut, plainKind, plainPageOut}
 use Rattle.pages.specs.Promise.{pageOut}
 use Rattle.recovery.proofs.Follows.{Follows, Facts, FactsOf, due-facts}
 use Rattle.recovery.proofs.FollowsStep.{some-waits}
 use Rattle.recovery.proofs.FrameTheorem.{pending-bytes, current-bytes, home-bytes, due-page}
-use Rattle.recovery.proofs.SumLaws.{Distinct, one-entry, same-room, same-due, same-advance}
+use Rattle.recovery.proofs.SumLaws.{Distinct, one-entry, one-rises, same-room, same-due, same-advance}
 use Rattle.recovery.specs.Book.{FrameBook, markedOr, bookWrote, Needs}
 use Rattle.recovery.specs.Contents.{Contents, FrameBytes}
 use Rattle.recovery.specs.Directory.{Note}
 use Rattle.recovery.specs.Questions.{roomAsks, pageOutAsks, advanceAsks}
+use Rattle.recovery.specs.Sound.{Rises}
 use Rattle.recovery.specs.State.{Generation, State, entryCount, directoryOf, empty, Phase, writing, flushed, owed}
 use Rattle.recovery.specs.Step.{pendingTo, currentTo, changeFrame, changeFrames, Kind, page, directory, trailer, migration, header, flush, outWrite, outOf, tailBytes, trailerBlockNo, nextMigration, kindWrite, afterFlush, afterKind, advanceDue, migrating, pageOutWrite, afterPageOut, passTo}
 use Rattle.recovery.specs.Sums.{notedIn, remainingWrites, firstOf, roomSums, advanceSums, passedTo}
@@ -65,14 +66,14 @@ abbrev pub someChange : State → Bool
 someChange s = ltb 0 (entryCount (s .current))
 
 -- a change leaves an entry, new or old
-pub change-notes : (w : FrameBytes) (ws : List FrameBytes) (g : Generation) → 0 < entryCount (changeFrames (w ∷ ws) g)
+pub change-notes : (w : FrameBytes) (ws : List FrameBytes) (g : Generation) → Rises (g .entries) → 0 < entryCount (changeFrames (w ∷ ws) g)
 unfolding changeFrames
-change-notes w [] g = rw (one-entry w g) (go (g .entries))
+change-notes w [] g up = rw (one-entry w g up) (go (g .entries))
   where
     go : (es : List Note) → 0 < length es + cond (notedIn (w .frame) es) 0 1
     go [] = unfold notedIn in (omega arith)
     go (e ∷ es) = omega arith
-change-notes w (x ∷ xs) g = change-notes x xs (changeFrame w g)
+change-notes w (x ∷ xs) g up = change-notes x xs (changeFrame w g) (one-rises w g up)
 
 -- page-out keeps all entries
 pub out-keeps : (s : State) → (nonePending (afterPageOut s) ≡ nonePending s) × (someChange (afterPageOut s) ≡ someChange s)
@@ -139,8 +140,8 @@ module _ (s : State) (t : Plain) (ledger-is : t .ledger ≡ blank s) (phase-is :
   unfolding blank
   account-is = rw (ledger-is, phase-is)
 
-  pub room-is : (ws touches : List FrameBytes) → blankFrames ws ≡ touches → Distinct touches → roomAsks ws s ≡ roomSums touches (t .ledger)
-  room-is ws touches e d = rw ledger-is (sym (blank-room s ws) ∙ (rw e (same-room touches (blank s) d)))
+  pub room-is : (ws touches : List FrameBytes) → blankFrames ws ≡ touches → Distinct touches → Rises (s .current .entries) → roomAsks ws s ≡ roomSums touches (t .ledger)
+  room-is ws touches e d up = rw ledger-is (sym (blank-room s ws) ∙ (rw e (same-room touches (blank s) d (blank-rises s up))))
 
   -- with the same frames passed over
   pub passed-is : (over : ℕ → Bool) → passedTo over (ledgerOf t) ≡ passedTo over s

@@ -40,6 +40,7 @@ use Rattle.recovery.proofs.SumLaws.{passed-over, passed-within, passed-next, pa
 use Rattle.recovery.specs.Book.{FrameBook, applyChanges, bookChange, bookWrote, WholeFrame, Brings}
 use Rattle.recovery.specs.Contents.{Contents, FrameBytes}
 use Rattle.recovery.specs.Questions.{heldAsks, roomAsks, snapshotAsks, given, advanceAsks}
+use Rattle.recovery.specs.Sound.{Rises}
 use Rattle.recovery.specs.State.{entryCount, empty, State}
 use Rattle.recovery.specs.Step.{changeFrames, afterChange, afterSnapshot, Kind, page, directory, trailer, migration, header, flush, kindWrite, kindPut, advanceDue, migrating, nextMigration, passTo}
 use Rattle.recovery.specs.Sums.{roomSums, passedTo, remainingWrites, firstOf, advanceSums}
@@ -125,6 +126,9 @@ module _ (rs : List Range) (blocks area : ℕ) (full : blocks ≡ 1 + area + all
 
     -- ---- a page that a call names
 
+    rises : Rises (meaningOf l .current .entries)
+    rises = b .follows .current-ordered .rises
+
     address-is : (o : ℕ) → addressOf l o ≡ locate rs (1 + area) o
     address-is o = rw (b .follows .ranges-is, b .follows .area-is)
 
@@ -181,10 +185,10 @@ module _ (rs : List Range) (blocks area : ℕ) (full : blocks ≡ 1 + area + all
 
       write-room : (at : ℕ) (new : List ℕ) → roomAsks (writeChanges l at new p) (meaningOf l) ≡ roomSums (writeTouches (t .rows o) new p) (t .ledger)
       unfolding writeChanges writeTouches
-      write-room at new = rw (write-frames at new) (room-is (meaningOf l) t (b .ledger-is) (b .phase-is) _ _ (row-touches at new (eqb (length new) 0)) (touches-apart (t .rows o) new p (omega (arith, inside))))
+      write-room at new = rw (write-frames at new) (room-is (meaningOf l) t (b .ledger-is) (b .phase-is) _ _ (row-touches at new (eqb (length new) 0)) (touches-apart (t .rows o) new p (omega (arith, inside))) rises)
 
       rescind-room : roomAsks (rescindChanges l p) (meaningOf l) ≡ roomSums (rescindTouches p) (t .ledger)
-      rescind-room = rw rescind-frames (room-is (meaningOf l) t (b .ledger-is) (b .phase-is) _ _ (rescind-touches present p) (tt, tt))
+      rescind-room = rw rescind-frames (room-is (meaningOf l) t (b .ledger-is) (b .phase-is) _ _ (rescind-touches present p) (tt, tt) rises)
 
       -- ---- a write and a rescind of it
 
@@ -205,7 +209,7 @@ module _ (rs : List Range) (blocks area : ℕ) (full : blocks ≡ 1 + area + all
       write-agrees at new short = rw (write-frames at new) (go (eqb (length new) 0))
         where
           noted : 0 < entryCount (changeFrames (writeFrames present p at new) (meaningOf l .current))
-          noted = unfold writeFrames in (change-notes _ _ _)
+          noted = unfold writeFrames in (change-notes _ _ _ rises)
 
           own : rowOf (applyChanges (writeFrames present p at new) present) p ≡ record { page = written at new (t .rows o .page); zero = false }
           own = write-row present p two pot-long (inside .entry-high) at new ∙ ap (λ (x : Page). record { page = written at new x; zero = false }) row-page
@@ -230,7 +234,7 @@ module _ (rs : List Range) (blocks area : ℕ) (full : blocks ≡ 1 + area + all
           (rows-changed _ _ own (rescind-other present p two pot-long (inside .entry-high))))
         where
           noted : 0 < entryCount (changeFrames (rescindFrames present p) (meaningOf l .current))
-          noted = unfold rescindFrames in (change-notes _ _ _)
+          noted = unfold rescindFrames in (change-notes _ _ _ rises)
 
           few : countAt (present (p .pot)) (p .entry) < 4294967295
           few = unfold pageOf in (omega (arith, ap (λ (x : Page). x .count) row-page))

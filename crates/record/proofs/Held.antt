@@ -6,62 +6,79 @@ use lib.Dec.{leb, ltb, eqb}
 use lib.ListN.{getD}
 use mathlib.Core.Bool.{true, false≢true}
 use mathlib.Core.Logic.{_≢_, ⊎-elim}
+use mathlib.Core.List.{List}
 use mathlib.Core.Path.{_≡_, refl}
 use native.Mathlib.Decide.{ℕ-discrete}
 use native.Mathlib.Omega.{arith}
 use Rattle.card.proofs.RangeLaws.{geometry-tells}
 use Rattle.card.proofs.Test.{byTest, both, joined, le-or-lt, each-at, each-all}
-use Rattle.card.specs.Directory.{entriesOf}
-use Rattle.card.specs.Question.{entriesFit}
+use Rattle.card.specs.Directory.{PlacesBelow}
 use Rattle.card.specs.Range.{rangesOf, geometryFits}
 use Rattle.card.specs.Ring.{half}
 use Rattle.record.proofs.HoldTests.{sizes-tell, spans-small, none-told, some-told, committed-told, down-told, no-pending, any-pending, few-pending, current-told}
-use Rattle.record.proofs.Tests.{within-each, each-within, once-apart, apart-once, alone-stands, stands-alone}
-use Rattle.record.specs.Holds.{geometryHolds, committedHolds, pendingHolds, currentHolds, sizesHold, tailFor, tailHolds, flushedHolds, phaseHolds, orderHolds, memoryHolds, countsHold, spansHold, changesHold, holdsTogether}
-use Rattle.record.specs.Lists.{cells, once, allWithin}
+use Rattle.record.proofs.Tests.{within-each, each-within, rising-told, told-rising, alone-stands, stands-alone}
+use Rattle.record.specs.Holds.{geometryHolds, committedHolds, pendingHolds, currentHolds, sizesHold, tailFor, tailHolds, flushedHolds, phaseHolds, orderHolds, memoryHolds, countsHold, spansHold, directoryHolds, changesHold, holdsTogether}
+use Rattle.record.specs.Lists.{cells, allRising, Rises}
 use Rattle.record.specs.Meaning.{waits, sizeOf, committedSizeOf}
 use Rattle.record.specs.declared.store.Changes.{Changes}
 use Rattle.record.specs.declared.store.Store.{Store}
 
--- what it tells of the pending or the current directory
+-- what it tells of a directory
+pub record Filed (area blocks p : ℕ) (frames spots : List ℕ) (n : ℕ) : Type 0 where
+  pub home : (i : ℕ) → i < n → (area < getD frames i 0) × (getD frames i 0 < blocks)
+  pub rises : Rises frames n
+  pub taken : PlacesBelow p n spots
+
+-- and of the pending or the current one
 pub record Listed (area blocks : ℕ) (g : Changes) : Type 0 where
-  pub home : (i : ℕ) → i < g .count → (area < getD (g .frames) i 0) × (getD (g .frames) i 0 < blocks)
-  pub single : (i j : ℕ) → i < j → j < g .count → getD (g .frames) i 0 ≢ getD (g .frames) j 0
-  pub taken : (i : ℕ) → i < g .count → getD (g .places) i 0 < g .taken
+  pub filed : Filed area blocks (g .taken) (g .frames) (g .places) (g .count)
   -- each place that is not down is the last one of exactly one entry
   pub stands : (k : ℕ) → g .down ≤ k → k < g .taken → (i : ℕ) × (i < g .count) × (getD (g .places) i 0 ≡ k) × ((j : ℕ) → j < g .count → getD (g .places) j 0 ≡ k → j ≡ i)
 
--- ---- the pending or the current directory
+-- ---- a directory
+
+module _ (area blocks p : ℕ) (frames spots : List ℕ) (n : ℕ) where
+  pub filed : directoryHolds area blocks p frames spots n ≡ true → Filed area blocks p frames spots n
+  unfolding directoryHolds
+  filed e =
+      let a = both (allRising (area + 1) blocks (cells frames 0 n)) _ e in
+      let r = rising-told blocks (λ k. getD frames k 0) (area + 1) 0 n (a .0) in
+      record {
+        home = λ i h. let q = r .0 i (omega arith) (omega arith) in (omega (arith, q .0), q .1);
+        rises = λ i j l h. r .1 i j (omega arith) l (omega arith);
+        taken = λ i h. within-each 0 p (λ k. getD spots k 0) 0 n (a .1) i (omega arith) (omega arith) .1;
+      }
+
+  pub filed-back : Filed area blocks p frames spots n → directoryHolds area blocks p frames spots n ≡ true
+  unfolding directoryHolds
+  filed-back h =
+      joined (allRising (area + 1) blocks (cells frames 0 n)) _
+      (told-rising blocks (λ k. getD frames k 0) (area + 1) 0 n (λ i a b. let q = h .home i (omega arith) in (omega (arith, q .0), q .1)) (λ i j a l b. h .rises i j l (omega arith)))
+      (each-within 0 p (λ k. getD spots k 0) 0 n (λ i a b. (omega arith, h .taken i (omega arith))))
+
+-- ---- the pending or the current one
 
 module _ (area blocks : ℕ) (g : Changes) where
   pub listed : changesHold area blocks g ≡ true → Listed area blocks g
   unfolding changesHold
   listed e =
-      let a = both (allWithin (area + 1) blocks (cells (g .frames) 0 (g .count))) _ e in
-      let b = both (once (cells (g .frames) 0 (g .count))) _ (a .1) in
-      let c = both (allWithin 0 (g .taken) (cells (g .places) 0 (g .count))) _ (b .1) in
+      let a = both (directoryHolds area blocks (g .taken) (g .frames) (g .places) (g .count)) _ e in
       record {
-        home = λ i h. let p = within-each (area + 1) blocks (λ k. getD (g .frames) k 0) 0 (g .count) (a .0) i (omega arith) (omega arith) in (omega (arith, p .0), p .1);
-        single = λ i j l h. once-apart (λ k. getD (g .frames) k 0) 0 (g .count) (b .0) i j (omega arith) l (omega arith);
-        taken = λ i h. within-each 0 (g .taken) (λ k. getD (g .places) k 0) 0 (g .count) (c .0) i (omega arith) (omega arith) .1;
+        filed = filed area blocks (g .taken) (g .frames) (g .places) (g .count) (a .0);
         stands = λ k l h.
-            let p = alone-stands (λ k. getD (g .places) k 0) k 0 (g .count) (each-at _ (g .down) (waits g) k (c .1) l (omega arith)) in
+            let p = alone-stands (λ k. getD (g .places) k 0) k 0 (g .count) (each-at _ (g .down) (waits g) k (a .1) l (omega arith)) in
             (p .0, omega (arith, p .2), p .3, λ j q r. p .4 j (omega arith) (omega arith) r);
       }
 
   pub listed-back : Listed area blocks g → changesHold area blocks g ≡ true
   unfolding changesHold
   listed-back h =
-      joined (allWithin (area + 1) blocks (cells (g .frames) 0 (g .count))) _
-      (each-within (area + 1) blocks (λ k. getD (g .frames) k 0) 0 (g .count) (λ i a b. let p = h .home i (omega arith) in (omega (arith, p .0), p .1)))
-      (joined (once (cells (g .frames) 0 (g .count))) _
-      (apart-once (λ k. getD (g .frames) k 0) 0 (g .count) (λ i j a l b. h .single i j l (omega arith)))
-      (joined (allWithin 0 (g .taken) (cells (g .places) 0 (g .count))) _
-      (each-within 0 (g .taken) (λ k. getD (g .places) k 0) 0 (g .count) (λ i a b. (omega arith, h .taken i (omega arith))))
+      joined (directoryHolds area blocks (g .taken) (g .frames) (g .places) (g .count)) _
+      (filed-back area blocks (g .taken) (g .frames) (g .places) (g .count) (h .filed))
       (each-all _ (g .down) (waits g)
       (λ k a b.
       let p = h .stands k a (omega arith) in
-      stands-alone (λ i. getD (g .places) i 0) k 0 (g .count) (p .0, omega arith, omega (arith, p .1), p .2, λ j c d q. p .3 j (omega arith) q)))))
+      stands-alone (λ i. getD (g .places) i 0) k 0 (g .count) (p .0, omega arith, omega (arith, p .1), p .2, λ j c d q. p .3 j (omega arith) q)))
 
 -- ---- how flushes stand
 
@@ -128,7 +145,7 @@ pub record Held (s : Store) : Type 0 where
   pub owed-before : s .phase ≡ 2 → (s .migrated ≡ 0) × (s .tail ≡ 0)
   pub head-low : s .head < s .frames
   pub seated : waits (s .pending) + waits (s .current) ≤ s .frames
-  pub committed : entriesFit (s .geometry .blocks) (s .geometry .area) (s .first) (s .pages) (s .geometry .area) (entriesOf (s .committed .frames) (s .committed .blocks) (s .committed .count)) ≡ true
+  pub committed : Filed (s .geometry .area) (s .geometry .blocks) (s .pages) (s .committed .frames) (s .committed .places) (s .committed .count)
   pub pending : Listed (s .geometry .area) (s .geometry .blocks) (s .pending)
   pub current : Listed (s .geometry .area) (s .geometry .blocks) (s .current)
 
@@ -151,7 +168,7 @@ held s h =
     let blocks = s .geometry .blocks in
     let counts = both (countsHold s) _ h in
     let spans = both (spansHold s) _ (counts .1) in
-    let listing = both (entriesFit blocks area (s .first) (s .pages) area (entriesOf (s .committed .frames) (s .committed .blocks) (s .committed .count))) _ (spans .1) in
+    let listing = both (directoryHolds area blocks (s .pages) (s .committed .frames) (s .committed .places) (s .committed .count)) _ (spans .1) in
     let changes = both (changesHold area blocks (s .pending)) _ (listing .1) in
     let a = both (geometryFits blocks area (rangesOf (s .geometry .ranges) (s .geometry .count))) _ (counts .0) in
     let b = both (committedHolds (s .commit) area (s .first) (s .pages) (s .committed .count)) _ (a .1) in
@@ -192,7 +209,7 @@ held s h =
       owed-before = ph .before;
       head-low = ltb-true _ _ (o .0);
       seated = leb-true _ _ (o .1);
-      committed = listing .0;
+      committed = filed area blocks (s .pages) (s .committed .frames) (s .committed .places) (s .committed .count) (listing .0);
       pending = listed area blocks (s .pending) (changes .0);
       current = listed area blocks (s .current) (changes .1);
     }
@@ -214,7 +231,8 @@ together s h =
     (joined (leb (s .migrated) (s .committed .count)) _ (le-leb _ _ (h .migrated-within))
     (joined (leb (s .tail) (tailFor (s .pending .count))) _ (le-leb _ _ (h .tail-within)) (joined (tailHolds (s .tail) (waits (s .pending))) _ tail-yes phase-yes)))
     (joined (ltb (s .head) (s .frames)) _ (lt-ltb _ _ (h .head-low)) (le-leb _ _ (h .seated)))))
-    (joined (entriesFit (s .geometry .blocks) (s .geometry .area) (s .first) (s .pages) (s .geometry .area) (entriesOf (s .committed .frames) (s .committed .blocks) (s .committed .count))) _ (h .committed)
+    (joined (directoryHolds (s .geometry .area) (s .geometry .blocks) (s .pages) (s .committed .frames) (s .committed .places) (s .committed .count)) _
+    (filed-back (s .geometry .area) (s .geometry .blocks) (s .pages) (s .committed .frames) (s .committed .places) (s .committed .count) (h .committed))
     (joined (changesHold (s .geometry .area) (s .geometry .blocks) (s .pending)) _ (listed-back (s .geometry .area) (s .geometry .blocks) (s .pending) (h .pending))
     (listed-back (s .geometry .area) (s .geometry .blocks) (s .current) (h .current)))))
   where

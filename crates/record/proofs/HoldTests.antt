@@ -4,7 +4,7 @@ use Prim.Native.Nat.{ℕ, _+_, _-_, _≤_, _<_}
 use borrow.Author.Tests.{ltb-true, leb-true, eqb-true, le-leb, lt-leb, eq-eqb, ne-eqb}
 use lib.Dec.{leb, eqb}
 use mathlib.Core.Bool.{true}
-use mathlib.Core.List.{[]}
+use mathlib.Core.List.{List, []}
 use mathlib.Core.Logic.{⊎-elim}
 use mathlib.Core.Path.{_≡_, refl, sym, _∙_}
 use native.Mathlib.Omega.{arith}
@@ -14,8 +14,8 @@ use Rattle.card.proofs.Test.{both, le-or-lt, each-no, each-end}
 use Rattle.card.specs.Range.{rangesOf}
 use Rattle.card.specs.Ring.{half}
 use Rattle.record.proofs.ListLaws.{cells-none}
-use Rattle.record.specs.Holds.{geometryHolds, committedHolds, pendingHolds, currentHolds, sizesHold, countsHold, spansHold, changesHold}
-use Rattle.record.specs.Lists.{once, alone, allAlone, allWithin}
+use Rattle.record.specs.Holds.{geometryHolds, committedHolds, pendingHolds, currentHolds, sizesHold, countsHold, spansHold, directoryHolds, changesHold}
+use Rattle.record.specs.Lists.{alone, allAlone, allWithin, allRising}
 use Rattle.record.specs.Meaning.{sizeOf, committedSizeOf}
 use Rattle.record.specs.declared.store.Changes.{Changes}
 use Rattle.record.specs.declared.store.Store.{Store}
@@ -36,9 +36,13 @@ stand-none k to = ⊎-elim
     (λ h. sym (each-no _ k to true refl h refl refl) ∙ sym (lt-leb to k h))
     (le-or-lt to k)
 
+pub none-filed : (area blocks p : ℕ) (frames spots : List ℕ) (n : ℕ) → n ≡ 0 → directoryHolds area blocks p frames spots n ≡ true
+unfolding directoryHolds allRising allWithin
+none-filed area blocks p frames spots n e = rw (e, cells-none frames, cells-none spots)
+
 pub none-hold : (area blocks : ℕ) (g : Changes) → g .count ≡ 0 → changesHold area blocks g ≡ leb (g .taken) (g .down)
-unfolding changesHold allWithin once
-none-hold area blocks g e = rw (e, cells-none (g .frames), cells-none (g .places)) (stand-none (g .down) (g .taken))
+unfolding changesHold
+none-hold area blocks g e = rw (none-filed area blocks (g .taken) (g .frames) (g .places) (g .count) e, e, cells-none (g .places)) (stand-none (g .down) (g .taken))
 
 -- ---- sizes
 
@@ -82,9 +86,6 @@ module _ (commit area first p e : ℕ) (h : committedHolds commit area first p e
       (λ z. let n = some-told z in (n .2, n .3, n .1))
       (le-or-lt commit 0)
 
-  pub no-committed : e ≡ 0 → p ≡ 0
-  no-committed none = ⊎-elim (λ z. none-told (omega (arith, z)) .1) (λ z. absurd (omega (arith, some-told z .0))) (le-or-lt commit 0)
-
 module _ (commit p e down : ℕ) (h : pendingHolds commit p e down ≡ true) where
   pub down-told : down ≤ p
   unfolding pendingHolds
@@ -108,9 +109,7 @@ current-told p e down h = let a = both (leb e p) _ h in (leb-true down p (a .1),
 -- that no count is above its places
 pub record Counts (s : Store) : Type 0 where
   pub area : s .geometry .area ≤ 512
-  pub first : s .first ≤ s .geometry .area
   pub committed : s .committed .count ≤ s .pages
-  pub no-pages : s .committed .count ≡ 0 → s .pages ≡ 0
   pub pending : s .pending .count ≤ s .pending .taken
   pub pending-down : s .pending .down ≤ s .pending .taken
   pub current : s .current .count ≤ s .current .taken
@@ -128,9 +127,7 @@ counts-tell s e =
     let current = current-told (s .current .taken) (s .current .count) (s .current .down) (c .1) in
     record {
       area = g .area-high;
-      first = committed .1;
       committed = committed .2;
-      no-pages = no-committed (s .commit) (s .geometry .area) (s .first) (s .pages) (s .committed .count) (b .0);
       pending = few-pending (s .commit) (s .pending .taken) (s .pending .count) (s .pending .down) (c .0);
       pending-down = down-told (s .commit) (s .pending .taken) (s .pending .count) (s .pending .down) (c .0);
       current = current .1;
@@ -142,8 +139,7 @@ counts-tell s e =
 -- that arrays of 256 have room
 pub record Small (s : Store) : Type 0 where
   pub area : s .geometry .area ≤ 512
-  pub first : s .first ≤ s .geometry .area
-  pub pages : s .pages ≤ 512
+  pub pages : 0 < s .committed .count → s .pages < 256
   pub committed : s .committed .count ≤ 256
   pub pending : s .pending .count ≤ 256
   pub pending-taken : 0 < s .pending .count → s .pending .taken < 256
@@ -161,11 +157,7 @@ sizes-small s e f =
     let d : s .current .count ≤ most = entries-small (s .current .taken) (s .current .count) most (c .current) (z .half-c) in
     record {
       area = area;
-      first = c .first;
-      pages = ⊎-elim
-          (λ none. omega (arith, c .no-pages (omega (arith, none))))
-          (λ some. omega (arith, size-some (s .pages) (s .committed .count) some, z .half-a))
-          (le-or-lt (s .committed .count) 0);
+      pages = λ l. omega (arith, size-some (s .pages) (s .committed .count) l, z .half-a);
       committed = omega arith;
       pending = omega arith;
       pending-taken = λ l. omega (arith, size-some (s .pending .taken) (s .pending .count) l, z .half-b);

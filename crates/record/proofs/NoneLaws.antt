@@ -46,8 +46,10 @@ module _ (g : Changes) (none : NoChange g) where
 
   pub none-listed : (area blocks : ℕ) → Listed area blocks g
   none-listed area blocks = record {
-    home = λ i l. absurd (omega (arith, none .count));
-    single = λ i j l k. absurd (omega (arith, none .count));
-    taken = λ i l. absurd (omega (arith, none .count));
+    filed = record {
+      home = λ i l. absurd (omega (arith, none .count));
+      rises = λ i j l k. absurd (omega (arith, none .count));
+      taken = λ i l. absurd (omega (arith, none .count));
+    };
     stands = λ k l h. absurd (omega (arith, none .taken));
   }

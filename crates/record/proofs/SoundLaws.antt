@@ -15,24 +15,22 @@ use Rattle.card.proofs.AllLaws.{all-tab, tab-all}
 use Rattle.card.proofs.BlockLaws.{block-length}
 use Rattle.card.proofs.BytesLaws.{tab-length, tab-append, tab-getD}
 use Rattle.card.proofs.DirectoryLaws.{entries-length}
-use Rattle.card.proofs.RingLaws.{size-some}
+use Rattle.card.proofs.RingLaws.{size-some, size-above, on-in, from-on, ring-high}
 use Rattle.card.proofs.Test.{byTest, apart}
 use Rattle.card.specs.Block.{blockAt}
 use Rattle.card.specs.Bytes.{tabulate, All}
 use Rattle.card.specs.Directory.{entryIn, entriesOf}
-use Rattle.card.specs.Ring.{generationSize, dirBlocks}
-use Rattle.card.specs.declared.directory.Entry.{Entry}
+use Rattle.card.specs.Ring.{ringAt, generationSize, dirBlocks}
 use Rattle.record.proofs.Held.{Listed, Held, held}
 use Rattle.record.proofs.SeatLaws.{seat-low, seat-apiece}
 use Rattle.record.specs.Holds.{tailFor, holdsTogether}
 use Rattle.record.specs.Meaning.{sizeOf, waits, noteIn, notesOf, committedSizeOf, seatAt, queueOf, generationOf, committedOf, pendingFirst, currentFirst, phaseOf, stateOf}
 use Rattle.record.specs.declared.store.Changes.{Changes}
 use Rattle.record.specs.declared.store.Store.{Store}
-use Rattle.recovery.proofs.Accept.{entries-told}
 use Rattle.recovery.proofs.ContentsLaws.{all-byFrame}
 use Rattle.recovery.specs.Book.{WholeFrame}
 use Rattle.recovery.specs.Directory.{Note, downEntries, dirOf, frameOf, waitingFrom}
-use Rattle.recovery.specs.Sound.{Unnoted, Single, Holds, Ordered, Home, Between, Sound, Seated}
+use Rattle.recovery.specs.Sound.{Unnoted, Rises, Holds, Ordered, Rising, Home, Between, Sound, Seated}
 use Rattle.recovery.specs.State.{places, size, committedSize, directoryOf, waitingFrames, isOwed, isFlushed}
 
 -- ---- the notes of a generation
@@ -49,11 +47,20 @@ module _ (frames spots : List ℕ) where
       go (yes q) rec = rw (eq-eqb k (getD spots i 0) q) (ap (λ (j : ℕ). getD frames j 0) (u i (omega arith) (omega arith) (sym q)))
       go (no d) rec = let other : i ≢ t = λ q. d (sym (ap (λ (j : ℕ). getD spots j 0) q ∙ e)) in rw (ne-eqb k (getD spots i 0) d) (rec (omega arith))
 
-  single-notes : (i n : ℕ) → ((j k : ℕ) → i ≤ j → j < k → k < i + n → getD frames j 0 ≢ getD frames k 0) → Single (tabulate (noteIn frames spots) i n)
+  rising-notes : (i n : ℕ) → ((j k : ℕ) → i ≤ j → j < k → k < i + n → getD frames j 0 < getD frames k 0) → Rises (tabulate (noteIn frames spots) i n)
   unfolding tabulate
-  single-notes i zero h = tt
-  single-notes i (suc n) h =
-      (all-tab (λ e. getD frames i 0 ≢ e .frame) (noteIn frames spots) (suc i) n (λ k a b. h i k (omega arith) (omega arith) (omega arith)), single-notes (suc i) n (λ j k a l b. h j k (omega arith) l (omega arith)))
+  rising-notes i zero h = tt
+  rising-notes i (suc n) h =
+      (all-tab (λ e. getD frames i 0 < e .frame) (noteIn frames spots) (suc i) n (λ k a b. h i k (omega arith) (omega arith) (omega arith)), rising-notes (suc i) n (λ j k a l b. h j k (omega arith) l (omega arith)))
+
+pub rising-entries : (area first : ℕ) (frames spots : List ℕ) (i n : ℕ) → ((j k : ℕ) → i ≤ j → j < k → k < i + n → getD frames j 0 < getD frames k 0)
+    → Rising (tabulate (entryIn area first frames spots) i n)
+unfolding tabulate
+rising-entries area first frames spots i zero h = tt
+rising-entries area first frames spots i (suc n) h = (
+  all-tab (λ e. getD frames i 0 < e .frame) (entryIn area first frames spots) (suc i) n (λ k a b. h i k (omega arith) (omega arith) (omega arith)),
+  rising-entries area first frames spots (suc i) n (λ j k a l b. h j k (omega arith) l (omega arith)),
+)
 
 pub notes-length : (g : Changes) → length (notesOf g) ≡ g .count
 notes-length g = tab-length (noteIn (g .frames) (g .places)) 0 (g .count)
@@ -71,7 +78,7 @@ module _ {area blocks : ℕ} {g : Changes} (h : Listed area blocks g) where
     where
       go : Dec (i ≡ j) → i ≡ j
       go (yes q) = q
-      go (no d) = absurd (⊎-elim (λ l. h .single i j l b e) (λ l. h .single j i l a (sym e)) (apart i j d))
+      go (no d) = absurd (⊎-elim (λ l. omega (arith, h .filed .rises i j l b, e)) (λ l. omega (arith, h .filed .rises j i l a, e)) (apart i j d))
 
   holder : (k : ℕ) → g .down ≤ k → k < g .taken → Holds (frameOf k (notesOf g)) k (notesOf g) × (Unnoted (frameOf k (notesOf g)) (notesOf g) → ⊥)
   holder k a b =
@@ -96,8 +103,8 @@ module _ (first : ℕ) (w : List (List ℕ)) (g : Changes) (long : length w ≡ 
 
   pub ordered : {area blocks : ℕ} → Listed area blocks g → Ordered (generationOf first w g)
   ordered h = record {
-    single = single-notes (g .frames) (g .places) 0 (g .count) (λ i j a l b. h .single i j l (omega arith));
-    taken = rw places-is (all-tab (λ e. e .place < g .taken) (noteIn (g .frames) (g .places)) 0 (g .count) (λ i a b. h .taken i (omega arith)));
+    rises = rising-notes (g .frames) (g .places) 0 (g .count) (λ i j a l b. h .filed .rises i j l (omega arith));
+    taken = rw places-is (all-tab (λ e. e .place < g .taken) (noteIn (g .frames) (g .places)) 0 (g .count) (λ i a b. h .filed .taken i (omega arith)));
     waits = λ k a b. holder h k a (omega (arith, places-is));
   }
 
@@ -119,15 +126,15 @@ module _ (area blocks : ℕ) where
       → All (Home area blocks) (directoryOf area (generationOf first w g)) × All (WholeFrame area blocks) (waitingFrames (generationOf first w g))
   unfolding directoryOf dirOf waitingFrames
   listed-home first w g long bytes h = (
-    all-byFrame (Home area blocks) _ (down-home first (g .down) (notesOf g) (all-tab (λ e. (area < e .frame) × (e .frame < blocks)) (noteIn (g .frames) (g .places)) 0 (g .count) (λ i a b. h .home i (omega arith)))),
-    waiting-whole (notesOf g) (g .down) w bytes (λ k a b. let p = h .stands k a (omega arith) in rw (frame-is h k (p .0) a (omega arith) (p .1) (p .2)) (h .home (p .0) (p .1))),
+    all-byFrame (Home area blocks) _ (down-home first (g .down) (notesOf g) (all-tab (λ e. (area < e .frame) × (e .frame < blocks)) (noteIn (g .frames) (g .places)) 0 (g .count) (λ i a b. h .filed .home i (omega arith)))),
+    waiting-whole (notesOf g) (g .down) w bytes (λ k a b. let p = h .stands k a (omega arith) in rw (frame-is h k (p .0) a (omega arith) (p .1) (p .2)) (h .filed .home (p .0) (p .1))),
   )
 
 -- ---- a record that holds together
 
 pub committed-size : (s : Store) → committedSize (committedOf s) ≡ committedSizeOf s
 unfolding committedSize
-committed-size s = ap (generationSize (s .pages)) (entries-length (s .committed .frames) (s .committed .blocks) (s .committed .count))
+committed-size s = ap (generationSize (s .pages)) (entries-length (s .geometry .area) (s .first) (s .committed .frames) (s .committed .places) (s .committed .count))
 
 pub queue-length : (s : Store) (m : List ℕ) (i n : ℕ) → length (queueOf s m i n) ≡ n
 queue-length s m i n = tab-length (λ k. blockAt m (seatAt (s .frames) (s .head) k)) i n
@@ -194,17 +201,36 @@ phase-owed n l e = go (ℕ-discrete n 0) (ℕ-discrete n 1)
     go (no d) (yes o) = absurd (false≢true (rw (ne-eqb n 0 d, eq-eqb n 1 o) at e))
     go (no d) (no o) = omega (arith, l, d, o)
 
--- a committed entry names a block of the area and a block of the card
-pub entry-inside : (s : Store) → Held s → (i : ℕ) → i < s .committed .count → (getD (s .committed .blocks) i 0 ≤ s .geometry .area) × (getD (s .committed .frames) i 0 < s .geometry .blocks)
-unfolding entriesOf
-entry-inside s h i l =
-    let area = s .geometry .area in
-    let blocks = s .geometry .blocks in
-    let f : ℕ → Entry = entryIn (s .committed .frames) (s .committed .blocks) in
-    let facts = entries-told blocks area (s .first) (s .pages) area (tabulate f 0 (s .committed .count)) (omega arith) (h .committed) in (
-      tab-all (Between area (s .first) 0 (s .pages)) f 0 (s .committed .count) (facts .1 .1 .0) i (omega arith) (omega arith) .1,
-      tab-all (Home area blocks) f 0 (s .committed .count) (facts .1 .0) i (omega arith) (omega arith) .1,
-    )
+-- ---- the committed directory
+
+module _ (s : Store) (h : Held s) where
+  -- a place is below the area's length
+  pub place-low : (i : ℕ) → i < s .committed .count → getD (s .committed .places) i 0 < s .geometry .area
+  place-low i l = omega (arith, h .committed .taken i l, h .half-committed, size-above (s .pages) (s .committed .count) (omega (arith, l)))
+
+  -- a committed entry names a block of the area and a block of the card
+  pub entry-inside : (i : ℕ) → i < s .committed .count
+      → (ringAt (s .geometry .area) (s .first) (getD (s .committed .places) i 0) ≤ s .geometry .area) × (getD (s .committed .frames) i 0 < s .geometry .blocks)
+  entry-inside i l = (ring-high (s .geometry .area) (s .first) (getD (s .committed .places) i 0) (h .first-high) (omega (arith, place-low i l)), h .committed .home i l .1)
+
+  filed-home : All (Home (s .geometry .area) (s .geometry .blocks)) (committedOf s .entries)
+  unfolding entriesOf
+  filed-home = all-tab (Home (s .geometry .area) (s .geometry .blocks)) (entryIn (s .geometry .area) (s .first) (s .committed .frames) (s .committed .places)) 0 (s .committed .count)
+      (λ i a b. h .committed .home i (omega arith))
+
+  filed-inside : All (Between (s .geometry .area) (s .first) 0 (s .pages)) (committedOf s .entries)
+  unfolding entriesOf
+  filed-inside =
+      all-tab (Between (s .geometry .area) (s .first) 0 (s .pages)) (entryIn (s .geometry .area) (s .first) (s .committed .frames) (s .committed .places)) 0 (s .committed .count)
+      (λ i a b.
+      let low = place-low i (omega arith) in
+      let in-area = on-in (s .geometry .area) (s .first) (h .first-low) (h .first-high) (getD (s .committed .places) i 0) (omega (arith, low)) in
+      let back = from-on (s .geometry .area) (s .first) (h .first-low) (h .first-high) (getD (s .committed .places) i 0) low in
+      (in-area .0, in-area .1, omega arith, omega (arith, back, h .committed .taken i (omega arith))))
+
+  filed-rising : Rising (committedOf s .entries)
+  unfolding entriesOf
+  filed-rising = rising-entries (s .geometry .area) (s .first) (s .committed .frames) (s .committed .places) 0 (s .committed .count) (λ i j a l b. h .committed .rises i j l (omega arith))
 
 -- the meaning of a record that passes question 2
 pub sound : (s : Store) (m : List ℕ) → holdsTogether s ≡ true → length m ≡ 512 * s .frames → Sound (stateOf s m)
@@ -212,20 +238,19 @@ sound s m q long =
     let h = held s q in
     let area = s .geometry .area in
     let blocks = s .geometry .blocks in
-    let count : length (committedOf s .entries) ≡ s .committed .count = entries-length (s .committed .frames) (s .committed .blocks) (s .committed .count) in
+    let count : length (committedOf s .entries) ≡ s .committed .count = entries-length area (s .first) (s .committed .frames) (s .committed .places) (s .committed .count) in
     let pending-count = notes-length (s .pending) in
     let current-count = notes-length (s .current) in
     let p = pending-long s h m in
     let c = current-long s h m in
-    let told = entries-told blocks area (s .first) (s .pages) area (committedOf s .entries) (omega arith) (h .committed) in
     record {
       geometry = h .geometry;
       none-committed = λ z. let n = h .none-committed z in (count ∙ n .0, n .1, n .2);
       some-committed = λ l. rw count (h .some-committed l);
       commit-limit = λ l. h .commit-limit (omega arith);
-      committed-home = told .1 .0;
-      committed-rising = told .1 .1 .1;
-      committed-inside = told .1 .1 .0;
+      committed-home = filed-home s h;
+      committed-rising = filed-rising s h;
+      committed-inside = filed-inside s h;
       pending-home = listed-home area blocks (pendingFirst s) (stateOf s m .pending .waiting) (s .pending) p (queue-whole s h m long 0 (waits (s .pending)) (omega (arith, h .seated))) (h .pending);
       current-home = listed-home area blocks (currentFirst s) (stateOf s m .current .waiting) (s .current) c (queue-whole s h m long (waits (s .pending)) (waits (s .current)) (h .seated)) (h .current);
       pending-ordered = ordered (pendingFirst s) (stateOf s m .pending .waiting) (s .pending) p (h .pending-down) (h .pending);

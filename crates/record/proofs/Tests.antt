@@ -1,16 +1,26 @@
 -- What tests over tabulated numbers tell of each index, and back.
 -- Assumes nothing.
-use Prim.Native.Nat.{ℕ, zero, suc, _+_, _≤_, _<_}
+use Prim.Native.Nat.{ℕ, zero, suc, _+_, _-_, _≤_, _<_}
 use borrow.Author.Tests.{ltb-true, leb-true, eqb-false, not-true, lt-ltb, le-leb, eq-eqb, ne-eqb}
-use lib.Dec.{leb, eqb}
-use mathlib.Core.Bool.{Bool, true, false, cond, false≢true}
-use mathlib.Core.Logic.{_≢_, ⊎-elim}
-use mathlib.Core.Path.{_≡_, refl, ap, sym, _∙_}
+use lib.Dec.{leb, ltb, eqb}
+use mathlib.Core.Bool.{Bool, true, false, cond, _&&_, false≢true}
+use mathlib.Core.Logic.{_≢_}
+use mathlib.Core.Path.{_≡_, refl, ap, sym, _∙_, subst}
 use native.Mathlib.Decide.{ℕ-discrete}
 use native.Mathlib.Omega.{arith}
-use Rattle.card.proofs.Test.{both, joined, le-or-lt, each-at, each-all}
+use Rattle.card.proofs.Test.{both, joined, each-at, each-all}
 use Rattle.card.specs.Bytes.{tabulate, each}
-use Rattle.record.specs.Lists.{elem, once, alone, within, allWithin}
+use Rattle.record.specs.Lists.{elem, once, alone, within, allWithin, allRising}
+
+-- two tests, each yes where the other is
+pub same-answer : (a b : Bool) → (a ≡ true → b ≡ true) → (b ≡ true → a ≡ true) → a ≡ b
+same-answer true b h k = sym (h refl)
+same-answer false true h k = k refl
+same-answer false false h k = refl
+
+not-yes : (a : Bool) → (a ≡ true → ⊥) → a ≡ false
+not-yes true h = absurd (h refl)
+not-yes false h = refl
 
 -- ---- every index of a run
 
@@ -38,6 +48,66 @@ module _ (low high : ℕ) (f : ℕ → ℕ) where
   pub each-within : (i n : ℕ) → ((k : ℕ) → i ≤ k → k < i + n → (low ≤ f k) × (f k < high)) → allWithin low high (tabulate f i n) ≡ true
   unfolding within
   each-within i n h = within-tab i n ∙ each-all (λ j. within low high (f j)) i n (λ k a b. let p = h k a b in joined (leb low (f k)) _ (le-leb _ _ (p .0)) (lt-ltb _ _ (p .1)))
+
+-- ---- allRising
+
+module _ (high : ℕ) (f : ℕ → ℕ) where
+  pub rising-told : (low i n : ℕ) → allRising low high (tabulate f i n) ≡ true
+      → ((k : ℕ) → i ≤ k → k < i + n → (low ≤ f k) × (f k < high)) × ((j k : ℕ) → i ≤ j → j < k → k < i + n → f j < f k)
+  unfolding tabulate allRising within
+  rising-told low i zero h = (λ k a b. absurd (omega arith), λ j k a l b. absurd (omega arith))
+  rising-told low i (suc n) h =
+      let p = both (leb low (f i) && ltb (f i) high) _ h in
+      let q = both (leb low (f i)) _ (p .0) in
+      let least : low ≤ f i = leb-true _ _ (q .0) in
+      let most : f i < high = ltb-true _ _ (q .1) in
+      let r = rising-told (suc (f i)) (suc i) n (p .1) in (
+        run (λ k. (low ≤ f k) × (f k < high)) i n (least, most) (λ k a b. let x = r .0 k a b in (omega (arith, x .0), x .1)),
+        λ j k a l b. run (λ (j : ℕ). j < k → f j < f k) i n (λ q. omega (arith, r .0 k (omega arith) (omega arith) .0)) (λ j c d q. r .1 j k c q (omega arith)) j a (omega arith) l,
+      )
+
+  pub told-rising : (low i n : ℕ) → ((k : ℕ) → i ≤ k → k < i + n → (low ≤ f k) × (f k < high)) → ((j k : ℕ) → i ≤ j → j < k → k < i + n → f j < f k)
+      → allRising low high (tabulate f i n) ≡ true
+  unfolding tabulate allRising within
+  told-rising low i zero h up = refl
+  told-rising low i (suc n) h up =
+      let p = h i (omega arith) (omega arith) in
+      joined (leb low (f i) && ltb (f i) high) _ (joined (leb low (f i)) _ (le-leb _ _ (p .0)) (lt-ltb _ _ (p .1)))
+      (told-rising (suc (f i)) (suc i) n (λ k a b. (up i k (omega arith) a (omega arith), h k (omega arith) (omega arith) .1)) (λ j k a l b. up j k (omega arith) l (omega arith)))
+
+  -- what rises from each index to the next rises
+  pub steps-rise : (n : ℕ) → ((k : ℕ) → 1 ≤ k → k < n → f (k - 1) < f k) → (i j : ℕ) → i < j → j < n → f i < f j
+  steps-rise n up i zero l h = absurd (omega arith)
+  steps-rise n up i (suc m) l h = go (ℕ-discrete i m) (λ q. steps-rise n up i m q (omega arith))
+    where
+      last : f m < f (suc m)
+      last = let e : suc m - 1 ≡ m = omega arith in rw e at (up (suc m) (omega arith) h)
+
+      go : Dec (i ≡ m) → (i < m → f i < f m) → f i < f (suc m)
+      go (yes e) rec = rw e last
+      go (no d) rec = omega (arith, rec (omega arith), last)
+
+  pub first-low : (low n : ℕ) → 0 < n → f 0 < low → allRising low high (tabulate f 0 n) ≡ false
+  first-low low n some h = not-yes _ (λ e. omega (arith, rising-told low 0 n e .0 0 (omega arith) (omega arith) .0, h))
+
+  pub last-high : (low n : ℕ) → 0 < n → high ≤ f (n - 1) → allRising low high (tabulate f 0 n) ≡ false
+  last-high low n some h = not-yes _ (λ e. omega (arith, rising-told low 0 n e .0 (n - 1) (omega arith) (omega arith) .1, h))
+
+  -- n elements that rise are within bounds where the first and the last are
+  pub rising-is : (low n : ℕ) → 0 < n → low ≤ f 0 → f (n - 1) < high → each (λ k. ltb (f (k - 1)) (f k)) 1 (n - 1) ≡ allRising low high (tabulate f 0 n)
+  rising-is low n some least most = same-answer _ _
+      (λ e.
+      let up : (i j : ℕ) → i < j → j < n → f i < f j = steps-rise n (λ k a b. ltb-true _ _ (each-at (λ k. ltb (f (k - 1)) (f k)) 1 (n - 1) k e a (omega arith))) in
+      told-rising low 0 n (λ k a b. (from-first k up (omega arith) (ℕ-discrete 0 k), to-last k up (omega arith) (ℕ-discrete (n - 1) k))) (λ j k a l b. up j k l (omega arith)))
+      (λ e. each-all (λ k. ltb (f (k - 1)) (f k)) 1 (n - 1) (λ k a b. lt-ltb _ _ (rising-told low 0 n e .1 (k - 1) k (omega arith) (omega arith) (omega arith))))
+    where
+      from-first : (k : ℕ) → ((i j : ℕ) → i < j → j < n → f i < f j) → k < n → Dec (0 ≡ k) → low ≤ f k
+      from-first k up h (yes e) = subst (λ (i : ℕ). low ≤ f i) e least
+      from-first k up h (no d) = omega (arith, least, up 0 k (omega arith) h)
+
+      to-last : (k : ℕ) → ((i j : ℕ) → i < j → j < n → f i < f j) → k < n → Dec (n - 1 ≡ k) → f k < high
+      to-last k up h (yes e) = subst (λ (i : ℕ). f i < high) e most
+      to-last k up h (no d) = omega (arith, most, up k (n - 1) (omega arith) (omega arith))
 
 -- ---- elem
 
@@ -81,24 +151,6 @@ module _ (f : ℕ → ℕ) where
   apart-once i (suc n) h =
       rw (none-elem f (f i) (suc i) n (λ k a b e. h i k (omega arith) (omega arith) (omega arith) (sym e)))
       (apart-once (suc i) n (λ j k a l b. h j k (omega arith) l (omega arith)))
-
-  pub once-front : (m n : ℕ) → m ≤ n → once (tabulate f 0 n) ≡ true → once (tabulate f 0 m) ≡ true
-  once-front m n h e = apart-once 0 m (λ j k a l b. once-apart 0 n e j k a l (omega arith))
-
-  -- one more value, not among those before it
-  pub once-next : (i : ℕ) → once (tabulate f 0 i) ≡ true → elem (f i) (tabulate f 0 i) ≡ false → once (tabulate f 0 (i + 1)) ≡ true
-  once-next i h new = apart-once 0 (i + 1) (λ j k a l b. ⊎-elim
-      (λ m. let e : k ≡ i = omega arith in rw e (elem-none f (f i) 0 i new j a (omega arith)))
-      (λ m. once-apart 0 i h j k a l (omega arith))
-      (le-or-lt i k))
-
-  -- one that is among them
-  pub once-again : (i n : ℕ) → i < n → elem (f i) (tabulate f 0 i) ≡ true → once (tabulate f 0 n) ≡ false
-  once-again i n h old = go (once (tabulate f 0 n)) refl
-    where
-      go : (t : Bool) → once (tabulate f 0 n) ≡ t → t ≡ false
-      go true e = absurd (false≢true (sym (none-elem f (f i) 0 i (λ k a b. once-apart 0 n e k i a (omega arith) (omega arith))) ∙ old))
-      go false e = refl
 
   -- ---- alone
 

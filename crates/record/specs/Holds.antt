@@ -3,12 +3,10 @@
 use Prim.Native.Nat.{ℕ, _+_}
 use lib.Dec.{leb, ltb, eqb}
 use mathlib.Core.Bool.{Bool, true, false, cond, _&&_}
-use mathlib.Core.List.{tail}
-use Rattle.card.specs.Directory.{entriesOf}
-use Rattle.card.specs.Question.{entriesFit}
+use mathlib.Core.List.{List}
 use Rattle.card.specs.Range.{rangesOf, geometryFits}
 use Rattle.card.specs.Ring.{half, dirBlocks}
-use Rattle.record.specs.Lists.{cells, once, allAlone, allWithin}
+use Rattle.record.specs.Lists.{cells, allAlone, allWithin, allRising}
 use Rattle.record.specs.Meaning.{waits, sizeOf, committedSizeOf}
 use Rattle.record.specs.declared.store.Changes.{Changes}
 use Rattle.record.specs.declared.store.Geometry.{Geometry}
@@ -75,15 +73,17 @@ spansHold s =
     sizesHold (s .geometry .area) (committedSizeOf s) (sizeOf (s .pending)) (sizeOf (s .current))
     && (orderHolds (s .migrated) (s .committed .count) (s .tail) (s .pending .count) (waits (s .pending)) (s .phase) && memoryHolds (s .frames) (s .head) (waits (s .pending) + waits (s .current)))
 
--- A directory names home blocks, none twice. Its places are taken ones, and each of its waiting frames stands in it once; every other entry has its block.
+-- A directory of n entries names home blocks, by rising frame (#109), so none twice, and its blocks are among the p page blocks of its own stretch.
+unfoldable pub directoryHolds : ℕ → ℕ → ℕ → List ℕ → List ℕ → ℕ → Bool
+directoryHolds area blocks p frames places n = allRising (area + 1) blocks (cells frames 0 n) && allWithin 0 p (cells places 0 n)
+
+-- each of a generation's waiting frames stands once in its directory; every other entry has its block
 unfoldable pub changesHold : ℕ → ℕ → Changes → Bool
-changesHold area blocks g =
-    allWithin (area + 1) blocks (cells (g .frames) 0 (g .count))
-    && (once (cells (g .frames) 0 (g .count)) && (allWithin 0 (g .taken) (cells (g .places) 0 (g .count)) && allAlone (cells (g .places) 0 (g .count)) (g .down) (waits g)))
+changesHold area blocks g = directoryHolds area blocks (g .taken) (g .frames) (g .places) (g .count) && allAlone (cells (g .places) 0 (g .count)) (g .down) (waits g)
 
 unfoldable pub holdsTogether : Store → Bool
 holdsTogether s =
     countsHold s
     && (spansHold s
-    && (entriesFit (s .geometry .blocks) (s .geometry .area) (s .first) (s .pages) (s .geometry .area) (entriesOf (s .committed .frames) (s .committed .blocks) (s .committed .count))
+    && (directoryHolds (s .geometry .area) (s .geometry .blocks) (s .pages) (s .committed .frames) (s .committed .places) (s .committed .count)
     && (changesHold (s .geometry .area) (s .geometry .blocks) (s .pending) && changesHold (s .geometry .area) (s .geometry .blocks) (s .current))))

@@ -45,6 +45,21 @@ unfoldable pub allWithin : ℕ → ℕ → List ℕ → Bool
 allWithin low high [] = true
 allWithin low high (y ∷ ys) = within low high y && allWithin low high ys
 
+-- do they rise, from low on and below high?
+unfoldable pub allRising : ℕ → ℕ → List ℕ → Bool
+allRising low high [] = true
+allRising low high (y ∷ ys) = within low high y && allRising (suc y) high ys
+
+-- the first n elements of an array rise
+abbrev pub Rises : List ℕ → ℕ → Type 0
+Rises l n = (i j : ℕ) → i < j → j < n → getD l i 0 < getD l j 0
+
+-- the place of x among n elements that rise: those before it are below x, and no other
+pub record Below (l : List ℕ) (n x i : ℕ) : Type 0 where
+  pub most : i ≤ n
+  pub before : (j : ℕ) → j < i → getD l j 0 < x
+  pub after : (j : ℕ) → i ≤ j → j < n → x ≤ getD l j 0
+
 -- the first place of n at which x stands, or n
 pub record First (l : List ℕ) (n x i : ℕ) : Type 0 where
   pub most : i ≤ n

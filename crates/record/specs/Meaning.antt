@@ -19,7 +19,7 @@ use Rattle.recovery.specs.State.{Committed, Generation, State, Phase, writing, 
 abbrev pub waits : Changes → ℕ
 waits g = g .taken - g .down
 
--- entries in memory, in order of first change: entry i of two arrays, the first `count`, and those of a generation
+-- entries in memory: entry i of two arrays, the first `count`, and those of a generation
 abbrev pub noteIn : List ℕ → List ℕ → ℕ → Note
 noteIn frames places i = record { frame = getD frames i 0; place = getD places i 0 }
 
@@ -48,7 +48,7 @@ abbrev pub generationOf : ℕ → List (List ℕ) → Changes → Generation
 generationOf first waiting g = record { first = first; pagesDown = g .down; entries = notesOf g; waiting = waiting }
 
 abbrev pub committedOf : Store → Committed
-committedOf s = record { first = s .first; places = s .pages; entries = entriesOf (s .committed .frames) (s .committed .blocks) (s .committed .count) }
+committedOf s = record { first = s .first; places = s .pages; entries = entriesOf (s .geometry .area) (s .first) (s .committed .frames) (s .committed .places) (s .committed .count) }
 
 -- the stretches adjoin
 abbrev pub pendingFirst : Store → ℕ
@@ -91,7 +91,7 @@ zeroStore = record {
   commit = 0;
   first = 0;
   pages = 0;
-  committed = record { count = 0; frames = replicate 256 0; blocks = replicate 256 0 };
+  committed = record { count = 0; frames = replicate 256 0; places = replicate 256 0 };
   migrated = 0;
   pending = zeroChanges;
   tail = 0;

@@ -2,7 +2,6 @@
 use super::list;
 use super::store::Geometry;
 use super::store::Store;
-use card::directory;
 use card::range;
 use card::ring;
 ghost use mathlib.Core.Path.{_≡_};
@@ -10,7 +9,7 @@ ghost use mathlib.Core.Bool.{true};
 ghost use Prim.Native.Nat.{_+_, _≤_, _<_};
 ghost use lib.Dec.{leb};
 ghost use Rattle.card.specs.Ring.{generationSize};
-ghost use Rattle.record.specs.Holds.{geometryHolds, committedHolds, pendingHolds, currentHolds, sizesHold, tailFor, tailHolds, flushedHolds, phaseHolds, orderHolds, memoryHolds, countsHold, spansHold, changesHold, holdsTogether};
+ghost use Rattle.record.specs.Holds.{geometryHolds, committedHolds, pendingHolds, currentHolds, sizesHold, tailFor, tailHolds, flushedHolds, phaseHolds, orderHolds, memoryHolds, countsHold, spansHold, directoryHolds, changesHold, holdsTogether};
 
 fn geometry_holds(g: Geometry) -> bool
     ensures { λ r. ⌜ r ≡ geometryHolds g ⌝ }
@@ -250,7 +249,25 @@ fn spans_hold(s: Store) -> bool
     memory_holds(s.frames, s.head, p, c)
 }
 
-// Does the directory of a generation of n entries and p places, d of them down, hold?
+// Does a directory of n entries in a generation of p places hold?
+fn directory_holds<'a>(
+    area: usize,
+    blocks: usize,
+    p: usize,
+    frames: &'a [u16; 256],
+    places: &'a [u8; 256],
+    n: usize,
+) -> bool
+    requires { ⌜ (area ≤ 512) × ((n ≤ 256) × (p < 256)) ⌝ }
+    ensures { λ r. ⌜ r ≡ directoryHolds area blocks p (now (frames .entry)) (now (places .entry)) n ⌝ }
+{
+    if !list::all_rise(frames, n, area + 1, blocks) {
+        return false;
+    }
+    list::all_taken(places, n, p)
+}
+
+// Does that of a generation of which d places are down?
 fn changes_hold<'a>(
     area: usize,
     blocks: usize,
@@ -263,20 +280,14 @@ fn changes_hold<'a>(
     requires { ⌜ (area ≤ 512) × ((n ≤ p) × (p < 256)) ⌝ }
     ensures { λ r. ⌜ r ≡ changesHold area blocks (record { count = n; taken = p; down = d; frames = now (frames .entry); places = now (places .entry) }) ⌝ }
 {
-    if !list::all_within(frames, n, area + 1, blocks) {
-        return false;
-    }
-    if !list::all_once(frames, n) {
-        return false;
-    }
-    if !list::all_taken(places, n, p) {
+    if !directory_holds(area, blocks, p, frames, places, n) {
         return false;
     }
     list::all_stand(places, n, d, p)
 }
 
-// An empty directory is settled first: it need not be copied, and its places may be many. `current_listed` differs in a name only: one function for both that
-// took the generation by value would copy it twice.
+// An empty directory is settled first: it need not be copied, and its places may be many. `current_listed` differs in a name only: one function for both that took the
+// generation by value would copy it twice.
 fn pending_listed(s: Store) -> bool
     requires { ⌜ (countsHold s ≡ true) × (spansHold s ≡ true) ⌝ }
     ensures { λ r. ⌜ r ≡ changesHold (s .geometry .area) (s .geometry .blocks) (s .pending) ⌝ }
@@ -315,6 +326,24 @@ fn current_listed(s: Store) -> bool
     )
 }
 
+fn committed_listed(s: Store) -> bool
+    requires { ⌜ (countsHold s ≡ true) × (spansHold s ≡ true) ⌝ }
+    ensures { λ r. ⌜ r ≡ directoryHolds (s .geometry .area) (s .geometry .blocks) (s .pages) (s .committed .frames) (s .committed .places) (s .committed .count) ⌝ }
+{
+    if s.committed.count == 0 {
+        return true;
+    }
+    let d = s.committed;
+    directory_holds(
+        s.geometry.area,
+        s.geometry.blocks,
+        s.pages,
+        &d.frames,
+        &d.places,
+        d.count,
+    )
+}
+
 // Question 2, of any record.
 pub fn holds_together(s: Store) -> bool
     ensures { λ r. ⌜ r ≡ holdsTogether s ⌝ }
@@ -325,16 +354,7 @@ pub fn holds_together(s: Store) -> bool
     if !spans_hold(s) {
         return false;
     }
-    let d = s.committed;
-    if !directory::fits(
-        s.geometry.blocks,
-        s.geometry.area,
-        s.first,
-        s.pages,
-        &d.frames,
-        &d.blocks,
-        d.count,
-    ) {
+    if !committed_listed(s) {
         return false;
     }
     if !pending_listed(s) {

@@ -1,12 +1,13 @@
-// Arrays of 256 numbers, of 16 bits or, for places, of 8, of which the first n matter. A loop that asks yes or no of every element has no early exit and one
-// comparison, so that it is compiled to vector code.
+// Arrays of 256 numbers, of 16 bits or, for places, of 8, of which the first n matter. A loop that asks of every element has no early exit and one comparison, so that
+// it is compiled to vector code.
 use card::number;
+ghost use mathlib.Core.Bool.{_&&_};
 ghost use mathlib.Core.Path.{_≡_};
 ghost use Prim.Native.Nat.{ℕ, _-_, _≤_, _<_};
-ghost use lib.Dec.{leb, ltb, eqb};
-ghost use lib.ListN.{length, getD, replicate};
+ghost use lib.Dec.{ltb, eqb};
+ghost use lib.ListN.{getD, replicate};
 ghost use Rattle.card.specs.Bytes.{each};
-ghost use Rattle.record.specs.Lists.{cells, elem, once, times, allAlone, allWithin, First};
+ghost use Rattle.record.specs.Lists.{cells, times, allAlone, allWithin, allRising, Rises, Below, First};
 
 // Element i.
 pub fn at(l: &[u16; 256], i: usize) -> usize
@@ -29,51 +30,6 @@ fn zeros() -> [u8; 256]
     ensures { λ r. ⌜ r ≡ replicate 256 0 ⌝ }
 {
     [0u8; 256]
-}
-
-// Is x among the first n elements?
-fn contains(l: &[u16; 256], n: usize, x: u16) -> bool
-    requires { ⌜ n ≤ 256 ⌝ }
-    ensures { λ r. ⌜ r ≡ elem x (cells (now (l .entry)) 0 n) ⌝ }
-{
-    let mut found = false;
-    let mut i = 0;
-    while i < n {
-        if l[i] == x {
-            found = true;
-        }
-        i += 1;
-    }
-    found
-}
-
-// A table of 1024 bytes, all 0.
-fn unseen() -> [u8; 1024]
-    ensures { λ r. ⌜ r ≡ replicate 1024 0 ⌝ }
-{
-    [0u8; 1024]
-}
-
-// Is each of the first n elements there once only? A table remembers which remainders have been seen; only where one comes again are the elements before it
-// compared.
-pub fn all_once(l: &[u16; 256], n: usize) -> bool
-    requires { ⌜ n ≤ 256 ⌝ }
-    ensures { λ r. ⌜ r ≡ once (cells (now (l .entry)) 0 n) ⌝ }
-{
-    let mut seen = unseen();
-    let mut i = 0;
-    while i < n {
-        let x = l[i];
-        let b = number::from_short(x) % 1024;
-        if seen[b] != 0 {
-            if contains(l, i, x) {
-                return false;
-            }
-        }
-        seen[b] = 1;
-        i += 1;
-    }
-    true
 }
 
 // How often each number stands among the first n places.
@@ -136,74 +92,74 @@ pub fn all_taken(l: &[u8; 256], n: usize, p: usize) -> bool
     yes
 }
 
-// Is each of the first n elements at least low?
-fn all_from(l: &[u16; 256], n: usize, low: u16) -> bool
+// Does each of the first n elements stand above the one before it?
+fn rising(l: &[u16; 256], n: usize) -> bool
     requires { ⌜ n ≤ 256 ⌝ }
-    ensures { λ r. ⌜ r ≡ each (λ k. leb low (getD (now (l .entry)) k 0)) 0 n ⌝ }
+    ensures { λ r. ⌜ r ≡ each (λ k. ltb (getD (now (l .entry)) (k - 1) 0) (getD (now (l .entry)) k 0)) 1 (n - 1) ⌝ }
 {
-    let mut yes = true;
-    let mut i = 0;
+    let mut all = true;
+    let mut i = 1;
     while i < n {
-        if l[i] < low {
-            yes = false;
+        if l[i] <= l[i - 1] {
+            all = false;
         }
         i += 1;
     }
-    yes
+    all
 }
 
-// Is each of the first n elements below high, a number of 16 bits?
-fn all_less(l: &[u16], n: usize, high: u16) -> bool
-    requires { ⌜ n ≤ length (now l) ⌝ }
-    ensures { λ r. ⌜ r ≡ each (λ k. ltb (getD (now (l .entry)) k 0) high) 0 n ⌝ }
+// Do the first n elements rise, from low on and below high?
+pub fn all_rise(l: &[u16; 256], n: usize, low: usize, high: usize) -> bool
+    requires { ⌜ n ≤ 256 ⌝ }
+    ensures { λ r. ⌜ r ≡ allRising low high (cells (now (l .entry)) 0 n) ⌝ }
 {
-    let mut yes = true;
-    let mut i = 0;
-    while i < n {
-        if high <= l[i] {
-            yes = false;
-        }
-        i += 1;
-    }
-    yes
-}
-
-// Is each of the first n elements below high? A slice's elements are known to have 16 bits, so they are below any higher number.
-fn all_below(l: &[u16], n: usize, high: usize) -> bool
-    requires { ⌜ n ≤ length (now l) ⌝ }
-    ensures { λ r. ⌜ r ≡ each (λ k. ltb (getD (now (l .entry)) k 0) high) 0 n ⌝ }
-{
-    if 65535 < high {
+    if n == 0 {
         return true;
     }
-    all_less(l, n, number::short(high))
-}
-
-// Is each of the first n elements at least low, and below high?
-pub fn all_within(l: &[u16; 256], n: usize, low: usize, high: usize) -> bool
-    requires { ⌜ (n ≤ 256) × (low < 65536) ⌝ }
-    ensures { λ r. ⌜ r ≡ allWithin low high (cells (now (l .entry)) 0 n) ⌝ }
-{
-    if !all_from(l, n, number::short(low)) {
+    if number::from_short(l[0]) < low {
         return false;
     }
-    all_below(l, n, high)
+    if high <= number::from_short(l[n - 1]) {
+        return false;
+    }
+    rising(l, n)
 }
 
-// The first of n elements that is x, or n. A frame that is looked up mostly stands in no directory, so `contains`, which has no early exit, is asked first.
-pub fn find(l: &[u16; 256], n: usize, x: u16) -> usize
-    requires { ⌜ n ≤ 256 ⌝ }
-    ensures { λ r. ⌜ First (now (l .entry)) n x r ⌝ }
+// How many of the first n elements, which rise, are below x: the place of x among them.
+pub fn below(l: &[u16; 256], n: usize, x: u16) -> usize
+    requires { ⌜ (n ≤ 256) × Rises (now l) n ⌝ }
+    ensures { λ r. ⌜ Below (now (l .entry)) n x r ⌝ }
 {
-    if !contains(l, n, x) {
-        return n;
-    }
+    let mut k = 0u16;
     let mut i = 0;
     while i < n {
-        if l[i] == x {
-            return i;
+        if l[i] < x {
+            k += 1;
         }
         i += 1;
     }
-    i
+    number::from_short(k)
+}
+
+// Is the i-th of the first n elements x?
+pub fn is_at(l: &[u16; 256], n: usize, i: usize, x: u16) -> bool
+    requires { ⌜ n ≤ 256 ⌝ }
+    ensures { λ r. ⌜ r ≡ ltb i n && eqb (getD (now (l .entry)) i 0) x ⌝ }
+{
+    if n <= i {
+        return false;
+    }
+    l[i] == x
+}
+
+// The place of x among the first n elements, which rise, or n.
+pub fn find(l: &[u16; 256], n: usize, x: u16) -> usize
+    requires { ⌜ (n ≤ 256) × Rises (now l) n ⌝ }
+    ensures { λ r. ⌜ First (now (l .entry)) n x r ⌝ }
+{
+    let i = below(l, n, x);
+    if is_at(l, n, i, x) {
+        return i;
+    }
+    n
 }

@@ -12,7 +12,7 @@ pub struct Geometry {
     pub ranges: [u32; 16],
 }
 
-// The pending or the current generation: e entries in order of first change, each a frame and the last place that it took; p places taken; places put down.
+// The pending or the current generation: e entries by rising frame, each a frame and the last place that it took; p places taken; places put down.
 // Place i is the block i on from the generation's first: a generation's size is at most 256, so that a byte holds its places. A frame waits where its place
 // is not down.
 #[repr(C)]
@@ -26,7 +26,7 @@ pub struct Changes {
 
 // `frames` is the number of memory frames. Those that wait stand in them one after the other from `head` on, the
 // pending ones first; after the last comes the first. `first`, `pages` and `committed` are the committed generation's
-// first block, its p, and its directory by rising frame. `migrated` counts committed entries copied home or passed
+// first block, its p, and its directory, by rising frame as the others. `migrated` counts committed entries copied home or passed
 // over, `tail` the pending directory's and trailer's blocks that are down. `phase` tells how flushes stand: 0, writing;
 // 1, flushed for the header write; 2, the flush after a header write or a start is owed.
 #[repr(C)]
@@ -71,7 +71,7 @@ pub fn zeros() -> Store
     let committed = Directory {
         count: 0,
         frames: [0u16; 256],
-        blocks: [0u16; 256],
+        places: [0u8; 256],
     };
     let pending = no_change();
     let current = no_change();

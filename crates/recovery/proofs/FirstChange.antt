@@ -1,7 +1,7 @@
--- Request 109: entries by rising frame tell what entries in order of first change told, for any list of changes.
+-- Entries by rising frame tell what entries in order of first change told, for any list of changes and page-outs (document 02, #109).
 -- Assumes nothing.
-use Prim.Native.Nat.{ℕ, zero, suc, _+_, _-_, _≤_, _<_}
-use borrow.Author.Tests.{ltb-true, ltb-false, eqb-true, eqb-false, lt-ltb, le-ltb, eq-eqb, ne-eqb}
+use Prim.Native.Nat.{ℕ, suc, _+_, _-_, _≤_, _<_}
+use borrow.Author.Tests.{ltb-true, eqb-true, eqb-false, eq-eqb, ne-eqb}
 use lib.Dec.{ltb, eqb}
 use lib.ListN.{length, set}
 use mathlib.Core.Bool.{Bool, true, false, cond}
@@ -9,23 +9,24 @@ use mathlib.Core.List.{List, [], _∷_, _++_, tail}
 use mathlib.Core.Logic.{_≢_}
 use mathlib.Core.Option.{Option, none, some}
 use mathlib.Core.Path.{_≡_, refl, ap, sym, _∙_, subst}
-use native.Mathlib.Decide.{ℕ-discrete}
 use native.Mathlib.Omega.{arith}
 use Rattle.card.proofs.AllLaws.{all-map, all-both}
 use Rattle.card.proofs.Test.{byTest, tests-swap, tests-twice}
 use Rattle.card.specs.Bytes.{All}
+use Rattle.card.specs.Directory.{dirBlock}
 use Rattle.card.specs.Ring.{ringAt}
+use Rattle.card.specs.declared.directory.Entry.{Entry}
 use Rattle.recovery.proofs.Follows.{empty-ordered}
 use Rattle.recovery.proofs.NoteLaws.{lookup-byFrame, rising-byFrame, rising-ext, rises-single}
 use Rattle.recovery.proofs.OrderedLaws.{change-one, out-ordered}
-use Rattle.recovery.proofs.PlaceLaws.{lookup-other, lookup-none}
+use Rattle.recovery.proofs.PlaceLaws.{lookup-none}
 use Rattle.recovery.proofs.Sorted.{lookup}
 use Rattle.recovery.proofs.WaitLaws.{wait-same}
 use Rattle.recovery.specs.Contents.{FrameBytes}
-use Rattle.recovery.specs.Directory.{Note, noteChange, downEntries, dirOf, byFrame, frameOf, turnOf, waitingFrom}
+use Rattle.recovery.specs.Directory.{Note, noteChange, downEntries, dirOf, frameOf, turnOf}
 use Rattle.recovery.specs.FirstChange.{noteFirst, queuedFirst, Change, changed, down, downIfAny, heldFirst, heldByFrame, Alike, SameAsFirst}
-use Rattle.recovery.specs.Sound.{Unnoted, Single, Rises, Holds, Ordered}
-use Rattle.recovery.specs.State.{Generation, places, entryCount, empty, waitingFrames}
+use Rattle.recovery.specs.Sound.{Unnoted, Single, Holds, Ordered}
+use Rattle.recovery.specs.State.{Generation, places, entryCount, empty, directoryOf, waitingFrames}
 use Rattle.recovery.specs.Step.{queued, changeFrame, outOf}
 use Rattle.recovery.specs.Sums.{notedIn}
 use Rattle.recovery.proofs.SumLaws.{one-entry}
@@ -247,6 +248,16 @@ module _ (a b : Generation) (h : Beside a b) where
       (all-map (λ e. placeIn (e .frame) (a .entries) ≡ some (e .place)) (λ e. e .place ≡ k → e .frame ≡ x) (a .entries)
       (λ e p q. place-held (e .frame) k x (b .entries) (w .0) (h .says (e .frame) ∙ p ∙ ap (λ (n : ℕ). some n) q)) (members (a .entries) (h .single))))
 
+  directories-are : (area first put : ℕ) → dirOf area first put (b .entries) ≡ dirOf area first put (a .entries)
+  directories-are area first put = same-dir area first put (b .entries) (a .entries) (rises-single (b .entries) (h .ordered .rises)) (h .single) (h .says)
+
+  directory-is : (area : ℕ) → directoryOf area b ≡ directoryOf area a
+  unfolding directoryOf
+  directory-is area = rw (h .first-is, h .down-is) (directories-are area (a .first) (a .pagesDown))
+
+  waits-are : waitingFrames b ≡ waitingFrames a
+  waits-are = unfold waitingFrames places in (rw (h .down-is, h .waiting-is) (wait-same (b .entries) (a .entries) (a .pagesDown) (a .waiting) (λ j l m. frames-are j l (unfold places in m))))
+
   alike : Alike a b
   alike = record {
     first-is = h .first-is;
@@ -257,11 +268,10 @@ module _ (a b : Generation) (h : Beside a b) where
     turn-is = λ f put. turn-by f put (b .entries) ∙ ap (turnBy put) (h .says f) ∙ sym (turn-by f put (a .entries));
     frame-is = frames-are;
     waits-is = waits-are;
-    dir-is = λ area first put. same-dir area first put (b .entries) (a .entries) (rises-single (b .entries) (h .ordered .rises)) (h .single) (h .says);
+    dir-is = directories-are;
+    block-is = λ area j. ap (λ (es : List Entry). dirBlock es j) (directory-is area);
+    shows-is = λ area c below f. rw (waits-are, directory-is area);
   }
-    where
-      waits-are : waitingFrames b ≡ waitingFrames a
-      waits-are = unfold waitingFrames places in (rw (h .down-is, h .waiting-is) (wait-same (b .entries) (a .entries) (a .pagesDown) (a .waiting) (λ j l m. frames-are j l (unfold places in m))))
 
 besides : (cs : List Change) (first : ℕ) → Beside (heldFirst cs first) (heldByFrame cs first)
 unfolding heldFirst heldByFrame
@@ -269,6 +279,18 @@ besides [] first = unfold empty in (record { first-is = refl; down-is = refl; wa
 besides (changed w ∷ cs) first = step-change (heldFirst cs first) (heldByFrame cs first) (besides cs first) w
 besides (down ∷ cs) first = step-down (heldFirst cs first) (heldByFrame cs first) (besides cs first)
 
--- THE THEOREM of request 109
 pub same-as-first : SameAsFirst
 same-as-first cs first = alike (heldFirst cs first) (heldByFrame cs first) (besides cs first)
+
+-- ---- the two forms differ: of 10, 9 and, put down, 10 again the older one has 10 first, with its last place
+
+changes : List Change
+changes = changed (record { frame = 10; bytes = [] }) ∷ down ∷ changed (record { frame = 9; bytes = [] }) ∷ changed (record { frame = 10; bytes = [] }) ∷ []
+
+held-first : heldFirst changes 1 .entries ≡ record { frame = 10; place = 2 } ∷ record { frame = 9; place = 1 } ∷ []
+unfolding changes heldFirst queuedFirst noteFirst downIfAny outOf turnOf places empty
+held-first = refl
+
+held-by-frame : heldByFrame changes 1 .entries ≡ record { frame = 9; place = 1 } ∷ record { frame = 10; place = 2 } ∷ []
+unfolding changes heldByFrame changeFrame queued noteChange downIfAny outOf turnOf places empty
+held-by-frame = refl

@@ -1,4 +1,5 @@
--- Request 109: a generation held as before, with its entries in order of first change. The calls do not use it; `SameAsFirst` says that what is held by rising frame tells the same.
+-- The older form of a generation, with its entries in order of first change (document 01, 'A generation'), and that the one by rising frame tells the same
+-- (document 02, #109). No call uses the older form.
 -- Assumes nothing.
 use Prim.Native.Nat.{ℕ, _≤_, _<_}
 use lib.Dec.{ltb, eqb}
@@ -7,7 +8,8 @@ use mathlib.Core.Bool.{cond}
 use mathlib.Core.List.{List, [], _∷_, _++_}
 use mathlib.Core.Option.{Option, none, some}
 use mathlib.Core.Path.{_≡_}
-use Rattle.recovery.specs.Contents.{FrameBytes}
+use Rattle.card.specs.Directory.{dirBlock}
+use Rattle.recovery.specs.Contents.{Contents, FrameBytes, overlay, storedFrames}
 use Rattle.recovery.specs.Directory.{Note, dirOf, frameOf, turnOf}
 use Rattle.recovery.specs.State.{Generation, places, entryCount, empty, directoryOf, waitingFrames}
 use Rattle.recovery.specs.Step.{changeFrame, outOf}
@@ -35,7 +37,7 @@ pub data Change : Type 0 where
 unfoldable pub downIfAny : Generation → Generation
 downIfAny g = cond (ltb 0 (length (g .waiting))) (outOf g) g
 
--- held in order of first change, and by rising frame, after a list of changes, the last one first
+-- what is held after a list of changes and page-outs, the last one first: in order of first change, and by rising frame
 unfoldable pub heldFirst : List Change → ℕ → Generation
 heldFirst [] first = empty first
 heldFirst (changed w ∷ cs) first = let g = heldFirst cs first in queuedFirst (turnOf (w .frame) (g .pagesDown) (g .entries)) w g
@@ -46,7 +48,11 @@ heldByFrame [] first = empty first
 heldByFrame (changed w ∷ cs) first = changeFrame w (heldByFrame cs first)
 heldByFrame (down ∷ cs) first = downIfAny (heldByFrame cs first)
 
--- every lookup and every directory block, for any list of changes
+-- what a read shows of a generation, over what lies below it
+abbrev pub shows : ℕ → Generation → List ℕ → Contents → Contents
+shows area g c below = overlay (waitingFrames g) (overlay (storedFrames c (directoryOf area g)) below)
+
+-- every lookup and every directory block
 pub record Alike (old new : Generation) : Type 0 where
   pub first-is : new .first ≡ old .first
   pub down-is : new .pagesDown ≡ old .pagesDown
@@ -58,8 +64,11 @@ pub record Alike (old new : Generation) : Type 0 where
   -- whose is a waiting place
   pub frame-is : (k : ℕ) → old .pagesDown ≤ k → k < places old → frameOf k (new .entries) ≡ frameOf k (old .entries)
   pub waits-is : waitingFrames new ≡ waitingFrames old
-  -- the directory that goes to the card, whatever is down; so each of its blocks
+  -- the directory that goes to the card, whatever is down, and each of its blocks
   pub dir-is : (area first put : ℕ) → dirOf area first put (new .entries) ≡ dirOf area first put (old .entries)
+  pub block-is : (area j : ℕ) → dirBlock (directoryOf area new) j ≡ dirBlock (directoryOf area old) j
+  -- what a read shows of every frame
+  pub shows-is : (area : ℕ) (c : List ℕ) (below : Contents) (f : ℕ) → shows area new c below f ≡ shows area old c below f
 
 abbrev pub SameAsFirst : Type 0
 SameAsFirst = (cs : List Change) (first : ℕ) → Alike (heldFirst cs first) (heldByFrame cs first)

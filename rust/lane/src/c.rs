@@ -14,13 +14,15 @@ struct Geometry {
     ranges: [u32; 16],
 }
 
+/// Entries by rising frame, each a frame and the place of its block.
 #[repr(C)]
 struct Directory {
     count: usize,
     frames: [u16; 256],
-    blocks: [u16; 256],
+    places: [u8; 256],
 }
 
+/// Entries by rising frame too, each with the last place that its frame took.
 #[repr(C)]
 struct Changes {
     count: usize,
@@ -70,17 +72,17 @@ pub struct Report {
 const _: () = {
     assert!(size_of::<Geometry>() == 88);
     assert!(offset_of!(Geometry, ranges) == 24);
-    assert!(size_of::<Directory>() == 1032);
-    assert!(offset_of!(Directory, blocks) == 520);
+    assert!(size_of::<Directory>() == 776);
+    assert!(offset_of!(Directory, places) == 520);
     assert!(size_of::<Changes>() == 792);
     assert!(offset_of!(Changes, places) == 536);
-    assert!(size_of::<Record>() == 2768);
+    assert!(size_of::<Record>() == 2512);
     assert!(offset_of!(Record, geometry) == 16);
     assert!(offset_of!(Record, first) == 112);
     assert!(offset_of!(Record, committed) == 128);
-    assert!(offset_of!(Record, pending) == 1168);
-    assert!(offset_of!(Record, current) == 1968);
-    assert!(offset_of!(Record, phase) == 2760);
+    assert!(offset_of!(Record, pending) == 912);
+    assert!(offset_of!(Record, current) == 1712);
+    assert!(offset_of!(Record, phase) == 2504);
     assert!(size_of::<Present>() == 8);
     assert!(offset_of!(Present, count) == 4);
     assert!(size_of::<Report>() == 16);

@@ -2,7 +2,7 @@
 
 pub mod broken;
 pub mod cards;
-mod form;
+pub mod form;
 pub mod records;
 
 use crate::call::Call;
@@ -14,9 +14,10 @@ use crate::rng::Rng;
 use crate::run::{run_steps, Failure};
 use crate::tally::Tally;
 use crate::trial::Trial;
+use model::blocks::ENTRIES;
 use model::generation::Committed;
 use model::geometry::BLOCK;
-use model::{Kind, Model, Phase};
+use model::{Kind, Model, Phase, Store};
 
 /// Which states of the store are doctored.
 #[derive(Clone, Copy)]
@@ -31,9 +32,9 @@ pub struct State {
 
 /// Each thing that advance can have due, while a current frame waits: with
 /// nothing committed yet, with a committed generation, and with a pending one
-/// too. Then with pages that M passes over, and a committed directory of
-/// several blocks, without more.
-pub const STATES: [State; 25] = [
+/// too. Then with pages that M passes over; and with directories of several
+/// blocks, the committed one or the two others, where none need wait.
+pub const STATES: [State; 27] = [
     state(None, false),
     state(Some(Kind::M), false),
     state(Some(Kind::P), true),
@@ -58,10 +59,9 @@ pub const STATES: [State; 25] = [
     state(Some(Kind::F), true).passing(),
     state(Some(Kind::H), true).passing(),
     state(Some(Kind::F), true).owed().passing(),
-    State {
-        size: Size::Wide,
-        ..state(Some(Kind::M), false)
-    },
+    state(Some(Kind::M), false).wide(),
+    state(Some(Kind::D), true).wide(),
+    state(Some(Kind::M), true).wide(),
 ];
 
 const fn state(due: Option<Kind>, pending: bool) -> State {
@@ -98,6 +98,13 @@ impl State {
         }
     }
 
+    const fn wide(self) -> State {
+        State {
+            size: Size::Wide,
+            ..self
+        }
+    }
+
     fn passes(&self, model: &Model, committed: &Committed) -> bool {
         let counted = match self.due {
             Some(Kind::H) => 0,
@@ -115,7 +122,7 @@ impl State {
         let committed = store.committed.as_ref();
         let entries = committed.map(|c| c.entries.len());
         let special = match self.size {
-            Size::Wide => entries > Some(64) && store.geometry.blocks < 500,
+            Size::Wide => is_wide(store) && store.geometry.blocks < 500,
             _ => !store.current.waiting.is_empty(),
         };
         special
@@ -125,6 +132,16 @@ impl State {
             && model.due() == self.due
             && (!self.passing || committed.is_some_and(|c| self.passes(model, c)))
     }
+}
+
+/// Has it directories of several blocks?
+fn is_wide(store: &Store) -> bool {
+    let e = match (&store.pending, &store.committed) {
+        (Some(pending), _) => pending.changes.e().min(store.current.e()),
+        (None, Some(committed)) => committed.entries.len(),
+        (None, None) => 0,
+    };
+    e > ENTRIES
 }
 
 /// How a part of a run failed.

@@ -37,6 +37,9 @@ pub struct Loan<'a> {
 }
 
 pub trait Library {
+    /// Has the record that it leaves the form of lane.h?
+    const KEEPS_FORM: bool = true;
+
     /// Makes one call. The buffer is a read's, or holds the bytes of a write.
     fn make(&mut self, call: &Call, loan: Loan<'_>, buffer: &mut [u8]) -> Answer;
 }

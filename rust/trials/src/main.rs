@@ -4,6 +4,7 @@
 mod call;
 mod cards;
 mod cuts;
+mod directories;
 mod doctored;
 mod drive;
 mod empties;
@@ -119,8 +120,8 @@ fn print_summary(options: &Options, lists: &Tally, doctored: &Tally, begun: Inst
         lists.looks
     );
     let (limits, cuts) = (lists.limits.table(), lists.cuts.table());
-    let empties = lists.empties.lists_table();
-    print!("{}{limits}{cuts}{empties}", lists.table());
+    let (directories, empties) = (lists.directories.table(), lists.empties.lists_table());
+    print!("{}{limits}{cuts}{directories}{empties}", lists.table());
     println!(
         "{} doctored records, {} doctored cards, {} calls on them",
         doctored.doctored_records,

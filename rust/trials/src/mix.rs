@@ -184,13 +184,16 @@ impl Mix {
         }
     }
 
-    /// Writes to OIDs in a row, paged out batch by batch: the directory fills.
+    /// Writes to OIDs in a row, rising or falling, paged out batch by batch: the
+    /// directory fills.
     fn sweep(&mut self, steps: &mut Vec<Step>) {
         let range = self.rng.pick(&self.geometry.ranges);
         let batch = self.rng.between(1, 32);
+        let falling = self.rng.chance(500);
         for i in 0..self.hot.len() {
-            let oid = range.first + i as u32 % range.pages;
-            steps.push(Step::plain(self.write(oid)));
+            let r = i as u32 % range.pages;
+            let r = if falling { range.pages - 1 - r } else { r };
+            steps.push(Step::plain(self.write(range.first + r)));
             if i % batch == batch - 1 {
                 repeat(Call::PageOut, batch + 1, steps);
             }

@@ -2,7 +2,8 @@
 
 use crate::call::{Answer, Call, NAMES};
 use crate::cuts::Cuts;
-use crate::doctored::broken::SENTENCES;
+use crate::directories::Directories;
+use crate::doctored::broken::sentences;
 use crate::empties::Empties;
 use crate::limits::Limits;
 use model::Kind;
@@ -37,6 +38,7 @@ pub struct Tally {
     pub lists: u64,
     pub cuts: Cuts,
     pub limits: Limits,
+    pub directories: Directories,
     pub empties: Empties,
     /// Blocks of the largest card that was started.
     largest: usize,
@@ -47,7 +49,7 @@ pub struct Tally {
     pub doctored_records: u64,
     pub doctored_cards: u64,
     /// The sentences of question 2 that a record has broken.
-    pub broken: BTreeSet<&'static str>,
+    pub broken: BTreeSet<String>,
 }
 
 impl Tally {
@@ -89,11 +91,12 @@ impl Tally {
         self.lists += other.lists;
         self.cuts.add(&other.cuts);
         self.limits.add(&other.limits);
+        self.directories.add(&other.directories);
         self.empties.add(&other.empties);
         self.looks += other.looks;
         self.doctored_records += other.doctored_records;
         self.doctored_cards += other.doctored_cards;
-        self.broken.extend(&other.broken);
+        self.broken.extend(other.broken.iter().cloned());
     }
 
     /// Numbers that lists can bring about and did not.
@@ -111,6 +114,7 @@ impl Tally {
             missing.push(format!("a memory of {frames} frames"));
         }
         missing.extend(self.limits.missing());
+        missing.extend(self.directories.missing());
         missing.extend(self.cuts.missing());
         missing.extend(self.empties.missing_from_lists());
         missing
@@ -120,7 +124,7 @@ impl Tally {
     /// that no record has broken, and empty pages that no card had.
     pub fn missing_from_doctored(&self) -> Vec<String> {
         let mut missing = self.missing(needs_doctoring);
-        let whole = SENTENCES.iter().filter(|name| !self.broken.contains(*name));
+        let whole = sentences().filter(|name| !self.broken.contains(name));
         missing.extend(whole.map(|name| format!("broken: {name}")));
         missing.extend(self.empties.missing_from_doctored());
         missing

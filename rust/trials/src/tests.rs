@@ -7,13 +7,14 @@ mod runs;
 
 use crate::call::Call;
 use crate::cards::Size;
+use crate::doctored::form::{COMMITTED, CURRENT, PENDING};
 use crate::doctored::{cards, records, Failed, STATES};
 use crate::limits::{told, LIMITS};
 use crate::list::{Lending, List, Step};
 use crate::mix;
 use crate::reference::Reference;
 use crate::rng::Rng;
-use crate::run::run;
+use crate::run::{run, Failure};
 use crate::shrink::shrink;
 use crate::tally::Tally;
 use careless::{Careless, Slip};
@@ -240,6 +241,20 @@ fn header_that_waits_for_what_is_passed_over() {
     caught_by_model(Fault::HeaderWaits);
 }
 
+#[test]
+fn directory_in_order_of_first_change() {
+    caught_by_model(Fault::DirectoryUnsorted);
+    caught_by_book(Fault::DirectoryUnsorted);
+}
+
+#[test]
+fn entry_missed_at_an_end_of_the_directory() {
+    for last in [false, true] {
+        caught_by_model(Fault::EntryMissed { last });
+        caught_by_book(Fault::EntryMissed { last });
+    }
+}
+
 /// For each row of `LIMITS`, the row of the same limit kept.
 const KEPT: [usize; 8] = [1, 1, 2, 2, 5, 5, 6, 6];
 
@@ -278,6 +293,14 @@ fn entry_252_taken() {
     caught_when_full(Fault::EntryTooMany, "answers done, the model 12");
 }
 
+/// How lists fail by a slip.
+fn failures(mut library: Careless) -> impl Iterator<Item = Failure> {
+    lists().filter_map(move |list| {
+        let model = Model::new(Vec::new());
+        run(&mut library, model, &list, &mut Tally::default()).err()
+    })
+}
+
 /// Doctoring must see a slip, and no list may.
 fn seen(result: Result<(), Failed>) -> String {
     match result {
@@ -307,6 +330,30 @@ fn doctored_records_catch_slips() {
     }
 }
 
+/// A question 2 that takes entries in any order.
+#[test]
+fn doctored_records_catch_an_order_not_asked_for() {
+    let [.., wide] = STATES;
+    for directory in [COMMITTED, PENDING, CURRENT] {
+        let (on, at, slip) = (|_: &Call| true, 0, Slip::AnyOrder(directory));
+        let mut library = Careless { on, at, slip };
+        let tally = &mut Tally::default();
+        let what = seen(records::doctor(&mut library, tally, wide, Rng::new(5)));
+        let sentence = format!("{}: entries swapped", directory.name);
+        assert!(what.contains(&sentence), "{what}");
+    }
+}
+
+/// With two entries swapped between calls the next one answers 2.
+#[test]
+fn lists_catch_entries_out_of_order() {
+    for directory in [COMMITTED, PENDING, CURRENT] {
+        let (on, at, slip) = (|_: &Call| true, 0, Slip::Swapped(directory));
+        let mut failures = failures(Careless { on, at, slip });
+        assert!(failures.any(|failure| failure.what.starts_with("answers 2, the model")));
+    }
+}
+
 #[test]
 fn doctored_cards_catch_slips() {
     for at in [6, 7, 8] {
@@ -330,12 +377,8 @@ fn lists_catch_a_record_that_changes() {
     ];
     for on in on {
         let (at, slip) = (0, Slip::Record);
-        let mut library = Careless { on, at, slip };
-        let mut run = |list| {
-            let model = Model::new(Vec::new());
-            run(&mut library, model, &list, &mut Tally::default()).err()
-        };
-        let failure = lists().find_map(&mut run).expect("no list fails");
+        let mut failures = failures(Careless { on, at, slip });
+        let failure = failures.next().expect("no list fails");
         assert!(failure.what.contains("record byte 77"), "{failure}");
     }
 }
@@ -360,10 +403,13 @@ fn what_was_never_seen_is_told() {
     assert!(told("an unflushed H found old"));
     assert!(told("an unflushed H found new after a start"));
     assert!(told("a start over an unflushed T, then a cut"));
+    assert!(told("entry new to the current directory: front"));
+    assert!(told("8 pages in falling order"));
     assert!(told("20 with only pages left that are passed over"));
     let missing = Tally::default().missing_from_doctored();
     let told = |what: &str| missing.iter().any(|one| one == what);
     assert!(told("broken: head"));
+    assert!(told("broken: pending: entries swapped"));
     assert!(told("doctored: page passed over by its pot at home"));
 }
 

@@ -2,6 +2,7 @@
 //! call's promise determines.
 
 use crate::call::{Answer, Buffer, Call};
+use crate::doctored::form::{self, Entry};
 use crate::drive::Drive;
 use crate::empties::{amid, Amid, Home};
 use crate::library::{Library, Record, PADDING, RECORD};
@@ -135,6 +136,7 @@ impl<'t, L: Library, R: Reference> Trial<'t, L, R> {
             Call::Start => amid(self.reference.model()),
             _ => None,
         };
+        let entries = self.entries_before(call);
         let exchange = self.exchange(call, lent);
         self.tally.count(call, &exchange.answer)?;
         exchange.compare()?;
@@ -143,6 +145,10 @@ impl<'t, L: Library, R: Reference> Trial<'t, L, R> {
         self.compare_memory(call, &exchange.answer, lent)?;
         self.note_sizes(call, &exchange.answer, lent);
         self.note_empties(call, &exchange.answer, amid);
+        if let Some(store) = &self.reference.model().store {
+            let directories = &mut self.tally.directories;
+            directories.count_made(call, &exchange.answer, &entries, store);
+        }
         let whole =
             matches!(call, Call::Format { .. } | Call::Start) || self.made.is_multiple_of(32);
         if whole || self.geometry.blocks <= COMPARED_WHOLE {
@@ -154,6 +160,13 @@ impl<'t, L: Library, R: Reference> Trial<'t, L, R> {
             answer: exchange.answer,
             overwritten: exchange.overwritten,
         })
+    }
+
+    /// The current directory before a change.
+    fn entries_before(&mut self, call: &Call) -> Vec<Entry> {
+        let store = self.reference.model().store.as_ref();
+        let store = store.filter(|_| call.changes_memory());
+        store.map_or(Vec::new(), |store| form::entries(&store.current))
     }
 
     /// A start shows what is lent, a snapshot how full a directory has become,
@@ -214,11 +227,15 @@ impl<'t, L: Library, R: Reference> Trial<'t, L, R> {
     }
 
     /// A call that is refused or changes nothing leaves the record; a refused
-    /// start makes it zeros.
-    fn compare_record(&self, call: &Call, answer: &Answer) -> Result<(), String> {
+    /// start makes it zeros. Any other leaves one that tells the model's state.
+    fn compare_record(&mut self, call: &Call, answer: &Answer) -> Result<(), String> {
         let record = &self.stock.record.0;
         let mut expected = self.before.record.0;
         if call.changes_record() && answer.is_done() {
+            let store = self.reference.model().store.as_ref();
+            if let (true, Some(store)) = (L::KEEPS_FORM, store) {
+                form::compare(&self.stock.record, store)?;
+            }
             expected[..RECORD].copy_from_slice(&record[..RECORD]);
         } else if *call == Call::Start {
             expected[..RECORD].fill(0);

@@ -1,17 +1,18 @@
 //! Records that do not hold together, by the sentences of question 2.
 
+mod entries;
+
 use super::form::{
-    element_at, is_known, place_at, put_element, put_place, put_size, size_at, Directory, AREA,
-    COMMIT, COMMITTED, COMMITTED_BLOCKS, CURRENT, FIRST, FLUSHED, GEOMETRY_BLOCKS, HEAD, MIGRATED,
-    OWED, PAGES, PENDING, PHASE, RANGES, RANGE_NUMBERS, TAIL, WIDTH, WRITING,
+    compare, place_at, put_entry, put_place, put_size, size_at, Directory, AREA, COMMIT, COMMITTED,
+    CURRENT, FIRST, FLUSHED, GEOMETRY_BLOCKS, HEAD, MIGRATED, OWED, PAGES, PENDING, PHASE, RANGES,
+    RANGE_NUMBERS, TAIL, WRITING,
 };
 use crate::library::Record;
-use crate::rng::Rng;
 use model::generation::{directory_blocks, size, Changes, Committed, Pending};
 use model::{Phase, Store};
 
-/// What a run must have broken, in one state or another.
-pub const SENTENCES: [&str; 31] = [
+/// The sentences, but for those on the entries of each directory.
+const SENTENCES: [&str; 25] = [
     "A",
     "the number of ranges",
     "the number of blocks",
@@ -23,13 +24,7 @@ pub const SENTENCES: [&str; 31] = [
     "e of the committed",
     "p of the committed",
     "the first block",
-    "a committed block",
-    "committed frames that do not rise",
     "the number migrated",
-    "a frame that is not home",
-    "a frame named twice",
-    "p below e",
-    "a place not taken",
     "a waiting place without entry",
     "a waiting place named twice",
     "p of a pending without entry",
@@ -45,9 +40,17 @@ pub const SENTENCES: [&str; 31] = [
     "owed, with work done",
 ];
 
+/// All that a run must have broken, in one state or another.
+pub fn sentences() -> impl Iterator<Item = String> {
+    SENTENCES
+        .map(String::from)
+        .into_iter()
+        .chain(entries::sentences())
+}
+
 /// A record with one sentence broken.
 pub struct Broken {
-    pub sentence: &'static str,
+    pub sentence: String,
     /// What was done to it.
     pub what: String,
     pub record: Record,
@@ -69,10 +72,8 @@ pub struct Doctored {
 }
 
 /// Records made from a good one of that store.
-pub fn doctored(good: &Record, store: &Store, rng: &mut Rng) -> Result<Doctored, String> {
-    if !is_known(good, store) {
-        return Err("the record has not the form of lane.h".into());
-    }
+pub fn doctored(good: &Record, store: &Store) -> Result<Doctored, String> {
+    compare(good, store)?;
     let mut breaker = Breaker {
         good,
         store,
@@ -80,14 +81,14 @@ pub fn doctored(good: &Record, store: &Store, rng: &mut Rng) -> Result<Doctored,
     };
     breaker.geometry();
     match &store.committed {
-        Some(committed) => breaker.committed(committed, rng),
+        Some(committed) => breaker.committed(committed),
         None => breaker.no_committed(),
     }
     match &store.pending {
-        Some(pending) => breaker.pending(pending, rng),
+        Some(pending) => breaker.pending(pending),
         None => breaker.no_pending(),
     }
-    breaker.directory(CURRENT, rng);
+    breaker.entries(CURRENT);
     breaker.places(CURRENT, &store.current);
     breaker.memory();
     breaker.phase();
@@ -95,18 +96,23 @@ pub fn doctored(good: &Record, store: &Store, rng: &mut Rng) -> Result<Doctored,
 }
 
 impl Breaker<'_> {
-    fn push(&mut self, sentence: &'static str, what: String, change: impl FnOnce(&mut Record)) {
+    fn push(
+        &mut self,
+        sentence: impl Into<String>,
+        what: String,
+        change: impl FnOnce(&mut Record),
+    ) {
         let mut record = *self.good;
         change(&mut record);
         self.made.broken.push(Broken {
-            sentence,
+            sentence: sentence.into(),
             what,
             record,
         });
     }
 
     /// One number made another.
-    fn set(&mut self, sentence: &'static str, at: usize, to: usize) {
+    fn set(&mut self, sentence: &str, at: usize, to: usize) {
         let what = format!("made {to}");
         self.push(sentence, what, |record| put_size(record, at, to));
     }
@@ -156,18 +162,6 @@ impl Breaker<'_> {
         self.made.held.push(record);
     }
 
-    /// One element of an array made another.
-    fn set_element(&mut self, sentence: &'static str, at: usize, to: usize) {
-        let what = format!("element made {to}");
-        self.push(sentence, what, |record| put_element(record, at, to));
-    }
-
-    /// One place made another.
-    fn set_place(&mut self, sentence: &'static str, at: usize, to: usize) {
-        let what = format!("place made {to}");
-        self.push(sentence, what, |record| put_place(record, at, to));
-    }
-
     /// Geometry passes 5.
     fn geometry(&mut self) {
         let geometry = &self.store.geometry;
@@ -205,54 +199,30 @@ impl Breaker<'_> {
         }
     }
 
-    /// The committed directory rises, its blocks lie in its own stretch, and
-    /// what is copied is within its count.
-    fn committed(&mut self, committed: &Committed, rng: &mut Rng) {
+    /// What is copied or passed over is within the directory's count.
+    fn committed(&mut self, committed: &Committed) {
         let (p, e) = (committed.p, committed.entries.len());
         let geometry = &self.store.geometry;
         self.set("commit, of a committed generation", COMMIT, 0);
-        self.directory(COMMITTED, rng);
-        self.swap_entries(e, rng);
+        self.entries(COMMITTED);
         for other in [0, p + 1] {
             self.set("e of the committed", COMMITTED.count, other);
         }
         self.migrated(e);
-        for other in [0, e - 1, geometry.half()] {
+        for other in [0, geometry.half()] {
             self.set("p of the committed", PAGES, other);
         }
         for other in [0, geometry.area + 1] {
             self.set("the first block", FIRST, other);
         }
-        let after = geometry.ring(committed.first, committed.size());
-        for other in [0, after, geometry.area + 1] {
-            let at = COMMITTED_BLOCKS + WIDTH * rng.below(e);
-            self.set_element("a committed block", at, other);
-        }
-    }
-
-    /// Two entries that follow each other, in each other's place.
-    fn swap_entries(&mut self, e: usize, rng: &mut Rng) {
-        if e < 2 {
-            return;
-        }
-        let i = rng.below(e - 1);
-        let what = format!("entries {i} and {} swapped", i + 1);
-        let good = self.good;
-        self.push("committed frames that do not rise", what, |record| {
-            for array in [COMMITTED.frames, COMMITTED_BLOCKS] {
-                let [one, next] = [array + WIDTH * i, array + WIDTH * (i + 1)];
-                put_element(record, one, element_at(good, next));
-                put_element(record, next, element_at(good, one));
-            }
-        });
     }
 
     /// Of directory and trailer no more is down than they have, and nothing
     /// while a frame waits. Commit can still rise.
-    fn pending(&mut self, pending: &Pending, rng: &mut Rng) {
+    fn pending(&mut self, pending: &Pending) {
         let changes = &pending.changes;
         self.set("commit, with one pending", COMMIT, u32::MAX as usize);
-        self.directory(PENDING, rng);
+        self.entries(PENDING);
         self.places(PENDING, changes);
         self.both_at_half(changes);
         let whole = directory_blocks(changes.e()) + 1;
@@ -266,50 +236,27 @@ impl Breaker<'_> {
         let what = "entries dropped, all places down".to_string();
         self.push("p of a pending without entry", what, |record| {
             put_size(record, PENDING.count, 0);
-            put_size(record, PENDING.down(), changes.p());
+            put_size(record, PENDING.down, changes.p());
             put_size(record, TAIL, 0);
         });
     }
 
     fn no_pending(&mut self) {
         self.set("tail, above directory and trailer", TAIL, 1);
-        self.set("more down than taken", PENDING.down(), 1);
+        self.set("more down than taken", PENDING.down, 1);
         let what = "a place taken and down".to_string();
         self.push("p of a pending without entry", what, |record| {
-            put_size(record, PENDING.taken(), 1);
-            put_size(record, PENDING.down(), 1);
+            put_size(record, PENDING.taken, 1);
+            put_size(record, PENDING.down, 1);
         });
     }
 
-    /// Each directory names home blocks, none twice.
-    fn directory(&mut self, directory: Directory, rng: &mut Rng) {
-        let geometry = &self.store.geometry;
-        let count = size_at(self.good, directory.count);
-        let at = |i: usize| directory.frames + WIDTH * i;
-        for i in 0..count {
-            let not_home = [0, geometry.area, geometry.blocks];
-            self.set_element("a frame that is not home", at(i), rng.pick(&not_home));
-            for _ in 0..count.min(4) {
-                let other = rng.below(count);
-                let twice = element_at(self.good, at(other));
-                if other != i {
-                    self.set_element("a frame named twice", at(i), twice);
-                }
-            }
-        }
-    }
-
-    /// e and what is down are at most p; places are taken ones; the stretches
-    /// are each at most H and together at most A.
+    /// What is down is at most p; the stretches are each at most H and together
+    /// at most A.
     fn places(&mut self, directory: Directory, changes: &Changes) {
-        let (p, e) = (changes.p(), changes.e());
-        self.set("more down than taken", directory.down(), p + 1);
-        if e == 0 {
+        self.set("more down than taken", directory.down, changes.p() + 1);
+        if changes.e() == 0 {
             return;
-        }
-        self.set("p below e", directory.taken(), e - 1);
-        for i in 0..e {
-            self.set_place("a place not taken", directory.place(i), p);
         }
         let to_half = self.store.geometry.half() - changes.size();
         let taken = self.store.other_sizes() + self.store.current.size();
@@ -327,30 +274,34 @@ impl Breaker<'_> {
         }
     }
 
-    fn push_up(&mut self, sentence: &'static str, directory: Directory, by: usize) {
+    fn push_up(&mut self, sentence: &str, directory: Directory, by: usize) {
         let longer = longer(self.good, directory, by);
         let what = format!("by {by} more places");
         self.push(sentence, what, |record| *record = longer);
     }
 
     /// Each waiting frame stands once in the directory. There is room for one
-    /// more place, so that place 0 can be one whose block is down.
+    /// more place, so that place 0 can be one whose block is down; and where only
+    /// the last place waits, another entry can be moved there.
     fn waiting_places(&mut self, directory: Directory, changes: &Changes) {
-        let (down, e) = (changes.written.len(), changes.e());
+        let (p, down) = (changes.p(), changes.written.len());
         let longer = longer(self.good, directory, 1);
-        for i in 0..e {
-            let place = place_at(self.good, directory.place(i));
-            if place < down {
-                continue;
+        for i in 0..changes.e() {
+            let at = directory.place(i);
+            let place = place_at(self.good, at);
+            if place >= down {
+                let what = format!("entry {i} at place 0");
+                self.push("a waiting place without entry", what, |record| {
+                    *record = longer;
+                    put_place(record, at, 0);
+                });
             }
-            let what = format!("entry {i} at place 0");
-            self.push("a waiting place without entry", what, |record| {
-                *record = longer;
-                put_place(record, directory.place(i), 0);
-            });
-            if e > 1 {
-                let other = directory.place((i + 1) % e);
-                self.set_place("a waiting place named twice", other, place);
+            if down < p && place < p - 1 {
+                let what = format!("entry {i} at place {}", p - 1);
+                self.push("a waiting place named twice", what, |record| {
+                    put_size(record, directory.down, p - 1);
+                    put_place(record, at, p - 1);
+                });
             }
         }
     }
@@ -397,12 +348,10 @@ impl Breaker<'_> {
         }
         let mut record = *self.good;
         put_size(&mut record, CURRENT.count, count);
-        put_size(&mut record, CURRENT.taken(), count);
-        put_size(&mut record, CURRENT.down(), 0);
+        put_size(&mut record, CURRENT.taken, count);
+        put_size(&mut record, CURRENT.down, 0);
         for i in 0..count {
-            let frame = geometry.area + 1 + i;
-            put_element(&mut record, CURRENT.frames + WIDTH * i, frame);
-            put_place(&mut record, CURRENT.place(i), i);
+            put_entry(&mut record, CURRENT, i, (geometry.area + 1 + i, i));
         }
         Some(record)
     }
@@ -411,8 +360,8 @@ impl Breaker<'_> {
 /// A generation made longer, as if so many blocks more were down.
 fn longer(good: &Record, directory: Directory, by: usize) -> Record {
     let mut record = *good;
-    let down = size_at(good, directory.down());
-    for at in [directory.taken(), directory.down()] {
+    let down = size_at(good, directory.down);
+    for at in [directory.taken, directory.down] {
         put_size(&mut record, at, size_at(good, at) + by);
     }
     for i in 0..size_at(good, directory.count) {

@@ -3,8 +3,9 @@
 
 use crate::library::Record;
 use model::blocks::{number, put_number};
-use model::generation::Committed;
+use model::generation::{Changes, Committed};
 use model::{Phase, Store};
+use std::collections::BTreeMap;
 
 /// Frames of memory.
 pub const FRAMES: usize = 0;
@@ -18,51 +19,59 @@ pub const COMMIT: usize = 104;
 pub const FIRST: usize = 112;
 pub const PAGES: usize = 120;
 pub const COMMITTED: Directory = Directory {
+    name: "committed",
     count: 128,
+    taken: PAGES,
+    down: PAGES,
     frames: 136,
 };
-pub const COMMITTED_BLOCKS: usize = 648;
-pub const MIGRATED: usize = 1160;
+pub const MIGRATED: usize = 904;
 pub const PENDING: Directory = Directory {
-    count: 1168,
-    frames: 1192,
+    name: "pending",
+    count: 912,
+    taken: 920,
+    down: 928,
+    frames: 936,
 };
 /// Blocks down of the pending directory and trailer.
-pub const TAIL: usize = 1960;
+pub const TAIL: usize = 1704;
 pub const CURRENT: Directory = Directory {
-    count: 1968,
-    frames: 1992,
+    name: "current",
+    count: 1712,
+    taken: 1720,
+    down: 1728,
+    frames: 1736,
 };
 /// How flushes stand, and its three numbers.
-pub const PHASE: usize = 2760;
+pub const PHASE: usize = 2504;
 pub const WRITING: usize = 0;
 pub const FLUSHED: usize = 1;
 pub const OWED: usize = 2;
-/// Bytes of a frame's or a block's number. A place has one.
-pub const WIDTH: usize = 2;
+/// Bytes of a frame's number. A place has one.
+const WIDTH: usize = 2;
 
-/// A directory's number of entries and its frames.
+/// A generation's directory, and how many of its places are taken and down.
 #[derive(Clone, Copy)]
 pub struct Directory {
+    pub name: &'static str,
+    /// Entries, e.
     pub count: usize,
-    pub frames: usize,
+    /// Places taken, p.
+    pub taken: usize,
+    /// Places whose block is down; of the committed generation all are.
+    pub down: usize,
+    frames: usize,
 }
 
-/// What the pending and current directories also have.
 impl Directory {
-    /// Places taken, p.
-    pub const fn taken(self) -> usize {
-        self.count + 8
+    /// The frame of entry i.
+    pub const fn frame(self, i: usize) -> usize {
+        self.frames + WIDTH * i
     }
 
-    /// Places whose block is down.
-    pub const fn down(self) -> usize {
-        self.count + 16
-    }
-
-    /// The last place of frame i.
+    /// The place of entry i, the last one that its frame took.
     pub const fn place(self, i: usize) -> usize {
-        self.frames + 256 * WIDTH + i
+        self.frame(256) + i
     }
 }
 
@@ -75,11 +84,11 @@ pub fn put_size(record: &mut Record, at: usize, to: usize) {
     put_number(&mut record.0, at, to as u32);
 }
 
-pub fn element_at(record: &Record, at: usize) -> usize {
+pub fn frame_at(record: &Record, at: usize) -> usize {
     usize::from(u16::from_le_bytes([record.0[at], record.0[at + 1]]))
 }
 
-pub fn put_element(record: &mut Record, at: usize, to: usize) {
+pub fn put_frame(record: &mut Record, at: usize, to: usize) {
     record.0[at..at + WIDTH].copy_from_slice(&(to as u16).to_le_bytes());
 }
 
@@ -91,9 +100,37 @@ pub fn put_place(record: &mut Record, at: usize, to: usize) {
     record.0[at] = to as u8;
 }
 
-/// Do the fields say what the model says?
-pub fn is_known(record: &Record, store: &Store) -> bool {
-    let stands = |(at, size): &(usize, usize)| size_at(record, *at) == *size;
+/// A frame and its place.
+pub type Entry = (usize, usize);
+
+pub fn entry_at(record: &Record, directory: Directory, i: usize) -> Entry {
+    let frame = frame_at(record, directory.frame(i));
+    (frame, place_at(record, directory.place(i)))
+}
+
+pub fn put_entry(record: &mut Record, directory: Directory, i: usize, entry: Entry) {
+    put_frame(record, directory.frame(i), entry.0);
+    put_place(record, directory.place(i), entry.1);
+}
+
+/// Does the record say what the model says?
+pub fn compare(record: &Record, store: &Store) -> Result<(), String> {
+    for (at, size) in sizes(store).into_iter().chain(pending_sizes(store)) {
+        let told = size_at(record, at);
+        if told != size {
+            return Err(format!("record byte {at} tells {told}, the model {size}"));
+        }
+    }
+    if size_at(record, HEAD) >= store.memory {
+        return Err("the record's head is no memory frame".into());
+    }
+    for (directory, entries) in directories(store) {
+        compare_entries(record, directory, &entries)?;
+    }
+    Ok(())
+}
+
+fn sizes(store: &Store) -> [(usize, usize); 13] {
     let [first, p, e, migrated] = match &store.committed {
         Some(Committed {
             first,
@@ -103,7 +140,7 @@ pub fn is_known(record: &Record, store: &Store) -> bool {
         }) => [*first, *p, entries.len(), *migrated],
         None => [1, 0, 0, 0],
     };
-    let sizes = [
+    [
         (FRAMES, store.memory),
         (GEOMETRY_BLOCKS, store.geometry.blocks),
         (AREA, store.geometry.area),
@@ -114,14 +151,10 @@ pub fn is_known(record: &Record, store: &Store) -> bool {
         (COMMITTED.count, e),
         (MIGRATED, migrated),
         (CURRENT.count, store.current.e()),
-        (CURRENT.taken(), store.current.p()),
-        (CURRENT.down(), store.current.written.len()),
+        (CURRENT.taken, store.current.p()),
+        (CURRENT.down, store.current.written.len()),
         (PHASE, phase(store)),
-    ];
-    sizes.iter().all(stands)
-        && pending_sizes(store).iter().all(stands)
-        && size_at(record, HEAD) < store.memory
-        && is_known_directory(record, store)
+    ]
 }
 
 fn phase(store: &Store) -> usize {
@@ -144,16 +177,51 @@ fn pending_sizes(store: &Store) -> [(usize, usize); 4] {
     };
     [
         (PENDING.count, e),
-        (PENDING.taken(), p),
-        (PENDING.down(), down),
+        (PENDING.taken, p),
+        (PENDING.down, down),
         (TAIL, tail),
     ]
 }
 
-fn is_known_directory(record: &Record, store: &Store) -> bool {
-    let entries = store.committed.iter().flat_map(|c| &c.entries);
-    entries.enumerate().all(|(i, (frame, block))| {
-        element_at(record, COMMITTED.frames + WIDTH * i) == *frame
-            && element_at(record, COMMITTED_BLOCKS + WIDTH * i) == *block
-    })
+fn compare_entries(record: &Record, directory: Directory, entries: &[Entry]) -> Result<(), String> {
+    for (i, entry) in entries.iter().enumerate() {
+        let told = entry_at(record, directory, i);
+        if told != *entry {
+            let name = directory.name;
+            return Err(format!(
+                "{name} entry {i} is {told:?}, the model has {entry:?}"
+            ));
+        }
+    }
+    Ok(())
+}
+
+/// The entries of each directory.
+pub fn directories(store: &Store) -> [(Directory, Vec<Entry>); 3] {
+    let pending = store.pending.as_ref();
+    let pending = pending.map_or(Vec::new(), |pending| entries(&pending.changes));
+    [
+        (COMMITTED, committed_entries(store)),
+        (PENDING, pending),
+        (CURRENT, entries(&store.current)),
+    ]
+}
+
+/// The place of a committed block is its distance from the generation's first.
+fn committed_entries(store: &Store) -> Vec<Entry> {
+    let Some(committed) = &store.committed else {
+        return Vec::new();
+    };
+    let place = |block| store.geometry.ring_distance(committed.first, block);
+    let entries = committed.entries.iter();
+    entries
+        .map(|(frame, block)| (*frame, place(*block)))
+        .collect()
+}
+
+/// By rising frame, each with the last place that it took.
+pub fn entries(changes: &Changes) -> Vec<Entry> {
+    let places = changes.taken().enumerate();
+    let last: BTreeMap<usize, usize> = places.map(|(place, frame)| (frame, place)).collect();
+    last.into_iter().collect()
 }

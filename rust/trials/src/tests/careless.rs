@@ -1,7 +1,9 @@
-//! The proved library with a slip each time a call answers a certain number.
+//! The proved library with a slip: each time a call answers a certain number, or
+//! in the order of a directory.
 
 use crate::call::{Answer, Call};
-use crate::library::{Library, Linked, Loan};
+use crate::doctored::form::{entry_at, put_entry, size_at, Directory, Entry};
+use crate::library::{Library, Linked, Loan, Record};
 
 #[derive(Clone, Copy)]
 pub enum Slip {
@@ -14,6 +16,10 @@ pub enum Slip {
     Number(u32),
     /// All calls answer 1.
     One,
+    /// Before a call the first two entries are swapped, if there are two.
+    Swapped(Directory),
+    /// Entries are taken in any order.
+    AnyOrder(Directory),
 }
 
 pub struct Careless {
@@ -26,6 +32,11 @@ pub struct Careless {
 
 impl Library for Careless {
     fn make(&mut self, call: &Call, loan: Loan<'_>, buffer: &mut [u8]) -> Answer {
+        match self.slip {
+            Slip::AnyOrder(directory) => return make_in_order(directory, call, loan, buffer),
+            Slip::Swapped(directory) if (self.on)(call) => swap(loan.record, directory),
+            _ => {}
+        }
         let Loan {
             record,
             card,
@@ -51,8 +62,48 @@ impl Library for Careless {
                     return Answer::Refused(number);
                 }
             }
+            Slip::Swapped(_) | Slip::AnyOrder(_) => {}
         }
         answer
+    }
+}
+
+/// The library is lent the entries in order, whatever theirs is.
+fn make_in_order(directory: Directory, call: &Call, loan: Loan<'_>, buffer: &mut [u8]) -> Answer {
+    let Loan {
+        record,
+        card,
+        memory,
+    } = loan;
+    let mut sorted = sorted(record, directory);
+    let lent = Loan {
+        record: &mut sorted,
+        card,
+        memory,
+    };
+    let answer = Linked.make(call, lent, buffer);
+    if *call == Call::Start || (answer.is_done() && call.changes_record()) {
+        *record = sorted;
+    }
+    answer
+}
+
+fn sorted(record: &Record, directory: Directory) -> Record {
+    let mut sorted = *record;
+    let count = size_at(record, directory.count).min(256);
+    let mut entries: Vec<Entry> = (0..count).map(|i| entry_at(record, directory, i)).collect();
+    entries.sort_unstable();
+    for (i, entry) in entries.into_iter().enumerate() {
+        put_entry(&mut sorted, directory, i, entry);
+    }
+    sorted
+}
+
+fn swap(record: &mut Record, directory: Directory) {
+    let [first, second] = [0, 1].map(|i| entry_at(record, directory, i));
+    if size_at(record, directory.count) > 1 {
+        put_entry(record, directory, 0, second);
+        put_entry(record, directory, 1, first);
     }
 }
 

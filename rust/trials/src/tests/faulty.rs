@@ -1,6 +1,7 @@
 //! The model as a library, with one fault: of document 01's list, of document
-//! 02's flushes or empty pages, or at a limit.
+//! 02's flushes or empty pages, in the order of a directory, or at a limit.
 
+mod directory;
 mod limits;
 mod passing;
 
@@ -59,6 +60,13 @@ pub enum Fault {
     HeaderWaits,
     /// 20 does not come while only pages are left that are passed over.
     PassedReported,
+    /// The directory is written in order of first change.
+    DirectoryUnsorted,
+    /// Key and read do not find the first or the last entry of the current
+    /// directory.
+    EntryMissed {
+        last: bool,
+    },
     /// Format or start answers question 5 wrongly at this limit.
     Limit {
         row: usize,
@@ -196,6 +204,7 @@ impl Faulty {
             Fault::NoFlushBeforeHeader => self.advance_to_header(lent),
             Fault::NoFlushAfterHeader => self.owe_nothing(&Call::Advance, lent),
             Fault::NoTrailer => self.advance_without_trailer(lent),
+            Fault::DirectoryUnsorted => self.advance_unsorted(lent),
             Fault::HeaderWaits => self.advance_and_wait(lent),
             Fault::PassedReported => self.advance_and_report(lent),
             _ => self.advance_past_others(lent),
@@ -277,6 +286,9 @@ impl Reference for Faulty {
             (Fault::Limit { row, start: false }, Call::Format { .. })
             | (Fault::Limit { row, start: true }, Call::Start) => self.pass_limit(row, call, lent),
             (Fault::EntryLost, Call::Start) => self.lose_entry(lent),
+            (Fault::EntryMissed { last }, Call::Key { .. } | Call::Read { .. }) => {
+                self.miss_entry(last, call, lent)
+            }
             (_, Call::Write { .. }) => self.change(call, lent, bytes),
             _ => self.model.make(call, lent, bytes),
         }
@@ -290,6 +302,9 @@ impl Reference for Faulty {
 /// As a library it has the lent card from format and start on, and gives back
 /// what it has made of it.
 impl Library for Faulty {
+    /// It knows all by itself.
+    const KEEPS_FORM: bool = false;
+
     fn make(&mut self, call: &Call, loan: Loan<'_>, buffer: &mut [u8]) -> Answer {
         let lent = Lent {
             card: loan.card.len(),

@@ -46,7 +46,8 @@ returns-3 c =
       number = sym (last-asked (at-start .pre .0) (at-start .pre .1) (at-read .ensures ∙ ap trailerOn (at-at .ensures .0)) true (said-yes (at-fits2 .ensures) (at-if1 .left)) (said-yes (at-read2 .ensures .0) (c .before .if2 .left)));
       header-is = λ z. at-start .pre .0 .header-is;
       trailer-is = λ z. sym (committed-is (at-start .pre .0) (at-start .pre .1) (at-read .ensures ∙ ap trailerOn (at-at .ensures .0)));
-      entries-is = λ z. directory-is (at-start .pre .0) (at-start .pre .1) (at-read .ensures ∙ ap trailerOn (at-at .ensures .0)) (at-read2 .result .directory) (directory .0) (directory .1);
+      entries-is = λ z. directory-is (at-start .pre .0) (at-start .pre .1) (at-read .ensures ∙ ap trailerOn (at-at .ensures .0)) (at-read2 .result .directory) (directory .0) (directory .1 .0);
+      places-are = λ z. rw (directory .0) (directory .1 .1);
     }
 
 pub committed-spec : {M : Type 1} → statement M

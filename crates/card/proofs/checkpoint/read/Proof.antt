@@ -38,6 +38,7 @@ returns-4 c =
       header-is = λ z. ok .header-is;
       trailer-is = λ z. c .before .uncommitted .ensures ∙ sym (uncommitted-is ok (c .before .before .if3 .left));
       entries-is = λ z. rw (c .empty .ensures .0) (sym (uncommitted-entries ok (c .before .before .if3 .left)));
+      places-are = λ z i l. absurd (omega (arith, c .empty .ensures .0));
     }
 
 pub read-spec : {M : Type 1} → statement M

@@ -6,12 +6,14 @@ use mathlib.Core.Bool.{false≢true}
 use mathlib.Core.Path.{_≡_, refl, ap, sym, _∙_}
 use native.Mathlib.Omega.{arith}
 use Rattle.card.proofs.BytesLaws.{tab-start, tab-end, Filled, filled-more}
-use Rattle.card.proofs.DirectoryLaws.{entries-filled, entry-next}
+use Rattle.card.proofs.DirectoryLaws.{PlacesFilled, places-more, entries-filled, entry-next}
+use Rattle.card.proofs.RingLaws.{on-from}
 use Rattle.card.proofs.QuestionLaws.{fit-more, fit-stops, fit-end, entry-tells}
 use Rattle.card.proofs.Test.{said-no, said-yes}
 use Rattle.card.specs.Bytes.{tabulate}
 use Rattle.card.specs.Directory.{entryOn, readDir}
 use Rattle.card.specs.Question.{entriesFit}
+use Rattle.card.specs.Ring.{ringAt}
 use Rattle.card.specs.declared.directory.Entry.{Entry}
 use Rattle.card.proofs.directory.read.Statement.{statement}
 use Rattle.card.proofs.directory.read.Tie as tie
@@ -20,7 +22,7 @@ abbrev Inv-loop : tie.InvT-loop
 Inv-loop card blocks area first p e d₀ low₀ i₀ d low i =
     (i ≤ e)
     × ((entriesFit blocks area first p low (tabulate (entryOn card area first p) i (e - i)) ≡ entriesFit blocks area first p area (readDir card area first p e))
-    × (((length (d .frames) ≡ 256) × Filled (λ i. entryOn card area first p i .frame) i (d .frames)) × ((length (d .blocks) ≡ 256) × Filled (λ i. entryOn card area first p i .block) i (d .blocks))))
+    × (((length (d .frames) ≡ 256) × Filled (λ i. entryOn card area first p i .frame) i (d .frames)) × ((length (d .places) ≡ 256) × PlacesFilled area first p (entryOn card area first p) i (d .places))))
 
 abbrev μ-loop : tie.MeasureT-loop
 μ-loop card blocks area first p e d₀ low₀ i₀ d low i = e - i
@@ -51,30 +53,48 @@ short-requires c κs =
     let told = entry-tells (a .blocks) (a .area) (a .first) (a .p) (l .low) _ (said-yes (c .before .entry-fits .ensures) (c .if1 .left)) in
     omega arith
 
-short-requires-2 : tie.Need-short-requires-2 Inv-loop μ-loop
-short-requires-2 c κs =
+offset-requires : tie.Need-offset-requires Inv-loop μ-loop
+offset-requires c κs =
     let a = c .before .before .before .before .before .before .before .before .before .before .args in
     let l = c .before .before .before .before .before .before .before .loop in
     let told = entry-tells (a .blocks) (a .area) (a .first) (a .p) (l .low) _ (said-yes (c .before .before .entry-fits .ensures) (c .before .if1 .left)) in
     omega arith
 
-loop-again : tie.Need-loop-again Inv-loop μ-loop
-loop-again c =
+byte-requires : tie.Need-byte-requires Inv-loop μ-loop
+byte-requires c κs =
     let a = c .before .before .before .before .before .before .before .before .before .before .before .args in
     let l = c .before .before .before .before .before .before .before .before .loop in
+    let told = entry-tells (a .blocks) (a .area) (a .first) (a .p) (l .low) _ (said-yes (c .before .before .before .entry-fits .ensures) (c .before .before .if1 .left)) in
+    omega (arith, c .offset .ensures, told .near, c .before .before .before .before .before .before .before .before .before .before .before .pre .1 .1 .1 .1 .1 .1)
+
+loop-again : tie.Need-loop-again Inv-loop μ-loop
+loop-again c =
+    let at-fits = c .before .before .before .before in
+    let at-loop = at-fits .before .before .before .before .before in
+    let at-start = at-loop .before .before .before in
+    let a = at-start .args in
+    let l = at-loop .loop in
+    let more = at-fits .before .before .before .before .loop-test .taken in
+    let few = at-start .pre .1 .1 .1 .1 .1 .0 in
     let f : ℕ → Entry = entryOn (a .card .now) (a .area) (a .first) (a .p) in
-    let x = c .before .before .before .before .before .before .entry-on .ensures in
-    let frame = c .before .before .before .before .before .wide .ensures .0 ∙ ap (λ (x : Entry). x .frame) x in
-    let block = c .before .before .before .before .wide2 .ensures .0 ∙ ap (λ (x : Entry). x .block) x in
+    let x = at-fits .before .before .before .entry-on .ensures in
+    let frame = at-fits .before .before .wide .ensures .0 ∙ ap (λ (x : Entry). x .frame) x in
+    let block = at-fits .before .wide2 .ensures .0 ∙ ap (λ (x : Entry). x .block) x in
+    let fits = said-yes (at-fits .entry-fits .ensures) (c .before .before .before .if1 .left) in
+    let told = entry-tells (a .blocks) (a .area) (a .first) (a .p) (l .low) _ fits in
+    let place = c .byte .ensures ∙ c .before .offset .ensures in
     let fs = l .inv .1 .1 .0 in
-    let bs = l .inv .1 .1 .1 in (
+    let ps = l .inv .1 .1 .1 in (
       omega arith,
       (
-        sym (fit-more (a .blocks) (a .area) (a .first) (a .p) (l .low) _ _ _ (entry-next f (l .i) (a .e) _ _ (omega arith) frame block) (said-yes (c .before .before .before .entry-fits .ensures) (c .before .before .if1 .left)))
-            ∙ l .inv .1 .0,
+        sym (fit-more (a .blocks) (a .area) (a .first) (a .p) (l .low) _ _ _ (entry-next f (l .i) (a .e) _ _ (omega arith) frame block) fits) ∙ l .inv .1 .0,
         (
-          (simp length-set (fs .0), filled-more (λ i. f i .frame) (l .i) (l .d .frames) _ (omega arith) (c .before .short .ensures ∙ frame) (fs .1)),
-          (simp length-set (bs .0), filled-more (λ i. f i .block) (l .i) (l .d .blocks) _ (omega arith) (c .short2 .ensures ∙ block) (bs .1)),
+          (simp length-set (fs .0), filled-more (λ i. f i .frame) (l .i) (l .d .frames) _ (omega (arith, more, few, fs .0)) (c .before .before .short .ensures ∙ frame) (fs .1)),
+          (
+            simp length-set (ps .0),
+            places-more (a .area) (a .first) (a .p) f (l .i) (l .d .places) _ (omega (arith, more, few, ps .0))
+                (ap (ringAt (a .area) (a .first)) place ∙ on-from (a .area) (a .first) (at-fits .before .wide2 .result) (omega arith) (told .least) (told .most) ∙ block) (omega (arith, place, told .near)) (ps .1),
+          ),
         ),
       ),
     )
@@ -87,7 +107,9 @@ returns-2 c =
     let f : ℕ → Entry = entryOn (a .card .now) (a .area) (a .first) (a .p) in
     let e : l .i ≡ a .e = omega arith in (
       sym (fit-end (a .blocks) (a .area) (a .first) (a .p) (l .low) _ (tab-end f (l .i) (a .e) (omega arith))) ∙ l .inv .1 .0,
-      λ t. (refl, entries-filled (l .d .frames) (l .d .blocks) f (a .e) (rw e at (l .inv .1 .1 .0 .1)) (rw e at (l .inv .1 .1 .1 .1))),
+      λ t.
+          let places : PlacesFilled (a .area) (a .first) (a .p) f (a .e) (l .d .places) = rw e at (l .inv .1 .1 .1 .1) in
+          (refl, (entries-filled (a .area) (a .first) (a .p) f (l .d .frames) (l .d .places) (a .e) (rw e at (l .inv .1 .1 .0 .1)) places, λ i h. places i h .1)),
     )
 
 pub read-spec : {M : Type 1} → statement M
@@ -106,8 +128,8 @@ read-spec =
     short-requires
     (λ c. omega arith)
     (λ c. omega arith)
-    short-requires-2
-    (λ c. omega arith)
+    offset-requires
+    byte-requires
     (λ c. omega arith)
     (λ c. omega arith)
     (λ c. omega arith)

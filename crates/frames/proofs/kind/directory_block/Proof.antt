@@ -5,96 +5,67 @@ use borrow.Author.Needs.{needs}
 use denote.Ref.{now}
 use native.Mathlib.Omega.{arith}
 use Rattle.card.proofs.DirectoryLaws.{dirBlock-length}
-use Rattle.frames.proofs.KindLaws.{kind-done, sortable, behind-fits, behind-inside, directory-write}
-use Rattle.record.proofs.Held.{held, bounds}
+use Rattle.frames.proofs.KindLaws.{kind-done, directory-fits, behind-fits, behind-inside, directory-write}
+use Rattle.record.proofs.Held.{Held, held, bounds}
 use Rattle.recovery.specs.Step.{directory}
 use Rattle.frames.proofs.kind.directory_block.Statement.{statement}
 use Rattle.frames.proofs.kind.directory_block.Tie as tie
 
-sorted-requires : tie.Need-sorted-requires
-sorted-requires c κs =
-    let s = c .before .before .before .before .before .before .args .s in
-    let w = c .before .before .before .before .before .before .pre .0 in
-    let h = held s (w .together) in
-    let more = c .before .before .before .before .before .before .pre .1 .1 in
-    let any : 0 < s .pending .count = omega (arith, more) in
-    sortable s h any _ (c .before .before .before .before .pending-first .ensures)
+-- question 2, and that there is an entry
+together : (c : tie.Start) → Held (c .args .s)
+together c = held (c .args .s) (c .pre .0 .together)
+
+any : (c : tie.Start) → 0 < c .args .s .pending .count
+any c = omega (arith, c .pre .1 .1)
 
 block-requires : tie.Need-block-requires
 block-requires c κs =
-    let at-start = c .before .before .before .before .before .before .before .before .before .before in
-    let s = at-start .args .s in
-    let w = at-start .pre .0 in
-    let h = held s (w .together) in
-    let b = bounds s h in
-    let more = at-start .pre .1 .1 in
-    (omega (arith, (c .before .before .before .sorted .ensures .count-is), b .pending-small), omega (arith, (c .before .before .before .sorted .ensures .count-is), more))
+    let at-first = c .before .before .before .before in
+    let at-start = at-first .before .before in
+    let f = directory-fits (at-start .args .s) (together at-start) (any at-start) _ (at-first .pending-first .ensures) in
+    (f .0, (f .1 .0, (f .1 .1 .0, (omega (arith, at-start .pre .1 .1), f .1 .1 .1))))
 
 add-at : tie.Need-add-at
 add-at c =
-    let at-start = c .before .before .before .before .before .before .before .before .before .before .before .before in
-    let s = at-start .args .s in
-    let w = at-start .pre .0 in
-    let h = held s (w .together) in
-    let b = bounds s h in
-    let more = at-start .pre .1 .1 in
-    omega (arith, b .pending-taken, b .pending-small, more)
+    let at-start = c .before .before .before .before .before .before .before .before in
+    let b = bounds (at-start .args .s) (together at-start) in
+    omega (arith, b .pending-taken, b .pending-small, at-start .pre .1 .1)
 
 at-requires : tie.Need-at-requires
 at-requires c κs =
-    let at-start = c .before .before .before .before .before .before .before .before .before .before .before .before in
-    let at-pending-first = c .before .before .before .before .before .before .before .before .before .before .pending-first in
+    let at-first = c .before .before .before .before .before .before in
+    let at-start = at-first .before .before in
     let s = at-start .args .s in
-    let w = at-start .pre .0 in
-    let h = held s (w .together) in
-    let more = at-start .pre .1 .1 in
-    let any : 0 < s .pending .count = omega (arith, more) in
-    behind-fits s h any _ (at-pending-first .ensures) (s .tail) (omega (arith, more))
+    behind-fits s (together at-start) (any at-start) _ (at-first .pending-first .ensures) (s .tail) (omega (arith, at-start .pre .1 .1))
 
 put-requires : tie.Need-put-requires
 put-requires c κs =
-    let at-start = c .before .before .before .before .before .before .before .before .before .before .before .before .before .before .before in
-    let at-pending-first = c .before .before .before .before .before .before .before .before .before .before .before .before .before .pending-first in
+    let at-first = c .before .before .before .before .before .before .before .before .before in
+    let at-start = at-first .before .before in
     let s = at-start .args .s in
-    let w = at-start .pre .0 in
-    let h = held s (w .together) in
-    let b = bounds s h in
-    let more = at-start .pre .1 .1 in
-    let any : 0 < s .pending .count = omega (arith, more) in
-    let high = behind-inside s h any _ (at-pending-first .ensures) (s .tail) (omega (arith, more)) _ (c .before .before .at .ensures) in
-    (omega (arith, high, b .area-inside, w .card-long), rw (c .before .before .before .before .block .ensures) (dirBlock-length _ _))
+    let high = behind-inside s (together at-start) (any at-start) _ (at-first .pending-first .ensures) (s .tail) (omega (arith, at-start .pre .1 .1)) _ (c .before .before .at .ensures) in
+    (omega (arith, high, bounds s (together at-start) .area-inside, at-start .pre .0 .card-long), rw (c .before .before .before .before .block .ensures) (dirBlock-length _ _))
 
 tail-down-requires : tie.Need-tail-down-requires
 tail-down-requires c κs =
-    let at-start = c .before .before .before .before .before .before .before .before .before .before .before .before .before .before .before .before .before .before in
-    let s = at-start .args .s in
+    let at-start = c .before .before .before .before .before .before .before .before .before .before .before .before .before .before in
     let w = at-start .pre .0 in
-    let still = at-start .pre .1 .0 in
-    let more = at-start .pre .1 .1 in
-    let any : 0 < s .pending .count = omega (arith, more) in
-    (w .together, (still, (any, (omega (arith, more), w .calm))))
+    (w .together, (at-start .pre .1 .0, (any at-start, (omega (arith, at-start .pre .1 .1), w .calm))))
 
 returns : tie.Need-returns
 returns c =
-    let at-start = c .before .before .before .before .before .before .before .before .before .before .before .before .before .before .before .before .before .before .before in
-    let at-pending-first = c .before .before .before .before .before .before .before .before .before .before .before .before .before .before .before .before .before .pending-first in
-    let at-at = c .before .before .before .before .before .before .at in
-    let at-sorted = c .before .before .before .before .before .before .before .before .before .before .before .before .sorted in
-    let at-block = c .before .before .before .before .before .before .before .before .block in
-    let s = at-start .args .s in
-    let w = at-start .pre .0 in
-    let h = held s (w .together) in
-    let still = at-start .pre .1 .0 in
-    let more = at-start .pre .1 .1 in
-    let any : 0 < s .pending .count = omega (arith, more) in
-    kind-done directory s _ _ _ (now (at-start .args .card)) _ (directory-write s h still any more _ _ _ (at-pending-first .ensures) (at-at .ensures) (at-sorted .ensures) (now (at-start .args .card))) (rw (← (at-block .ensures)) (c .before .before .before .put .ensures)) (c .tail-down .ensures)
+    let at-to = c .before .before .before .before .before .before in
+    let at-block = at-to .before .before in
+    let at-first = at-block .before .before .before .before .before in
+    let at-start = at-first .before .before in
+    let card = now (at-start .args .card) in
+    kind-done directory (at-start .args .s) _ _ _ card _ (directory-write (at-start .args .s) (together at-start) (at-start .pre .1 .0) (any at-start) (at-start .pre .1 .1) _ _ (at-first .pending-first .ensures) (at-to .at .ensures) card) (rw (← (at-block .block .ensures)) (c .before .before .before .put .ensures)) (c .tail-down .ensures)
 
 pub directory-block-spec : {M : Type 1} → statement M
 directory-block-spec =
     tie.close
     (tie.spec
     (λ c κs. search needs)
-    sorted-requires
     block-requires
     add-at
     at-requires

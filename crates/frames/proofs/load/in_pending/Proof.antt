@@ -58,7 +58,7 @@ pub in-pending-spec : {M : Type 1} → statement M
 in-pending-spec =
     tie.close
     (tie.spec
-    (λ c κs. pending-placed (c .before .before .args .s) (c .before .before .pre .0) .few)
+    (λ c κs. let placed = pending-placed (c .before .before .args .s) (c .before .before .pre .0) in (placed .few, placed .listed .filed .rises))
     (λ c κs. search needs)
     returns
     place-at-requires

@@ -73,7 +73,7 @@ pub newest-spec : {M : Type 1} → statement M
 newest-spec =
     tie.close
     (tie.spec
-    (λ c κs. current-placed (c .before .before .args .s) (c .before .before .pre .0) .few)
+    (λ c κs. let placed = current-placed (c .before .before .args .s) (c .before .before .pre .0) in (placed .few, placed .listed .filed .rises))
     (λ c κs. search needs)
     returns
     place-at-requires

@@ -1,4 +1,4 @@
--- `card::directory::rising` meets its contract. The loop's invariant: what is left and the answer so far give the whole answer.
+-- `record::list::rising` meets its contract. The loop's invariant: what is left and the answer so far give the whole answer.
 -- Assumes nothing.
 use Prim.Native.Nat.{_-_, _≤_}
 use borrow.Author.Tests.{lt-ltb, le-ltb}
@@ -8,14 +8,13 @@ use mathlib.Core.Path.{_≡_, refl}
 use lib.Dec.{ltb}
 use lib.ListN.{getD}
 use native.Mathlib.Omega.{arith}
 use Rattle.card.proofs.Test.{each-no, each-yes, each-end}
 use Rattle.card.specs.Bytes.{each}
-use Rattle.card.specs.Question.{rising}
-use Rattle.card.proofs.directory.rising.Statement.{statement}
-use Rattle.card.proofs.directory.rising.Tie as tie
+use Rattle.record.proofs.list.rising.Statement.{statement}
+use Rattle.record.proofs.list.rising.Tie as tie
 
 abbrev Inv-loop : tie.InvT-loop
-Inv-loop l n all₀ i₀ all i = (1 ≤ i) × (all && each (λ k. ltb (getD l (k - 1) 0) (getD l k 0)) i (n - i) ≡ rising l n)
+Inv-loop l n all₀ i₀ all i = (1 ≤ i) × (all && each (λ k. ltb (getD l (k - 1) 0) (getD l k 0)) i (n - i) ≡ each (λ k. ltb (getD l (k - 1) 0) (getD l k 0)) 1 (n - 1))
 
 abbrev μ-loop : tie.MeasureT-loop
 μ-loop l n all₀ i₀ all i = n - i
