@@ -105,10 +105,7 @@ module _ (s : Store) (card : List ℕ) where
     next-is = drop-cons (committedOf s .entries) i none (omega (arith, more, entries-long))
 
     pub frame-home : holdsTogether s ≡ true → (s .geometry .area < getD (s .committed .frames) i 0) × (getD (s .committed .frames) i 0 < s .geometry .blocks)
-    frame-home q =
-        let h = held s q in
-        let all = entries-told (s .geometry .blocks) (s .geometry .area) (s .first) (s .pages) (s .geometry .area) (committedOf s .entries) (omega arith) (h .committed) .1 .0 in
-        rw frame-is at (all-at (Home (s .geometry .area) (s .geometry .blocks)) (committedOf s .entries) i none all (omega (arith, more, entries-long)))
+    frame-home q = held s q .committed .home i more
 
     leads : (o : ℕ → Bool) (t : Bool) → t ≡ o (getD (s .committed .frames) i 0)
         → leading o (drop i (committedOf s .entries)) ≡ cond t (suc (leading o (drop (suc i) (committedOf s .entries)))) 0

@@ -34,7 +34,7 @@ pub struct State {
 /// nothing committed yet, with a committed generation, and with a pending one
 /// too. Then with pages that M passes over; and with directories of several
 /// blocks, the committed one or the two others, where none need wait.
-pub const STATES: [State; 27] = [
+pub const STATES: [State; 26] = [
     state(None, false),
     state(Some(Kind::M), false),
     state(Some(Kind::P), true),
@@ -60,8 +60,7 @@ pub const STATES: [State; 27] = [
     state(Some(Kind::H), true).passing(),
     state(Some(Kind::F), true).owed().passing(),
     state(Some(Kind::M), false).wide(),
-    state(Some(Kind::D), true).wide(),
-    state(Some(Kind::M), true).wide(),
+    state(Some(Kind::D), true).wide().fresh(),
 ];
 
 const fn state(due: Option<Kind>, pending: bool) -> State {

@@ -211,12 +211,16 @@ impl Mix {
         steps.push(Step::plain(call));
     }
 
-    /// A snapshot, and advances that may end anywhere.
+    /// A snapshot, and advances that may end anywhere. The next directory may
+    /// fill before them.
     fn commit(&mut self, steps: &mut Vec<Step>) {
         if self.sweeping {
             self.sweep(steps);
         }
         self.write_and(Call::Snapshot, steps);
+        if self.sweeping && self.rng.chance(500) {
+            self.sweep(steps);
+        }
         self.advances(steps);
     }
 

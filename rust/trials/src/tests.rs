@@ -333,12 +333,12 @@ fn doctored_records_catch_slips() {
 /// A question 2 that takes entries in any order.
 #[test]
 fn doctored_records_catch_an_order_not_asked_for() {
-    let [.., wide] = STATES;
-    for directory in [COMMITTED, PENDING, CURRENT] {
+    let [.., one, two] = STATES;
+    for (directory, state) in [(COMMITTED, one), (PENDING, two), (CURRENT, two)] {
         let (on, at, slip) = (|_: &Call| true, 0, Slip::AnyOrder(directory));
         let mut library = Careless { on, at, slip };
         let tally = &mut Tally::default();
-        let what = seen(records::doctor(&mut library, tally, wide, Rng::new(5)));
+        let what = seen(records::doctor(&mut library, tally, state, Rng::new(5)));
         let sentence = format!("{}: entries swapped", directory.name);
         assert!(what.contains(&sentence), "{what}");
     }
