@@ -8,7 +8,6 @@ use mathlib.Core.List.{List, [], _∷_}
 use mathlib.Core.Path.{_≡_, refl, ap, sym, _∙_}
 use native.Mathlib.Nat.{zero-add}
 use native.Mathlib.Omega.{arith}
-use Rattle.card.proofs.AllLaws.{all-at}
 use Rattle.card.proofs.BytesLaws.{tab-length, tab-getD, none-long}
 use Rattle.card.proofs.DirectoryLaws.{entries-length}
 use Rattle.card.proofs.RangeLaws.{geometry-tells}
@@ -28,9 +27,7 @@ use Rattle.record.proofs.Held.{held, bounds}
 use Rattle.record.specs.Holds.{holdsTogether}
 use Rattle.record.specs.Meaning.{committedOf, phaseOf}
 use Rattle.record.specs.declared.store.Store.{Store}
-use Rattle.recovery.proofs.Accept.{entries-told}
 use Rattle.recovery.proofs.SumLaws.{passed-within, passed-more, passed-early, passed-owed}
-use Rattle.recovery.specs.Sound.{Home}
 use Rattle.recovery.specs.Sums.{leading, passedTo}
 
 not-not : (t : Bool) → t ≡ not (not t)
