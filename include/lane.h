@@ -175,7 +175,7 @@ typedef struct {
 } lane_geometry;
 LANE_SIZE(lane_geometry, 88);
 
-/* `count` entries by rising frame, each a frame and the place of its block: how many blocks on from the
+/* Entries by rising frame, each a frame and the place of its block: how many blocks on from the
    generation's first it is, in the ring of blocks 1 to A. */
 typedef struct {
     size_t count;

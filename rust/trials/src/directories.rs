@@ -28,7 +28,7 @@ const LOOKED_UP: usize = 2;
 
 const PARTS: [&str; 3] = ["front", "middle", "end"];
 
-/// Orders in which pages changed first, so many in a row.
+/// Orders in which pages changed first, as many in a row.
 const ORDERS: [&str; 2] = ["rising", "falling"];
 
 /// Is the frame missing, and in which part is its entry, or would it be?
@@ -96,11 +96,13 @@ impl Directories {
         }
     }
 
-    /// The order in which pages of the pending generation changed first.
+    /// The order in which pages of a generation changed first, if some of it was
+    /// paged out before its snapshot.
     fn count_snapshot(&mut self, store: &Store) {
-        let pending = store.pending.iter();
-        let mut pages: Vec<usize> = pending
-            .flat_map(|pending| in_order_of_change(&pending.changes))
+        let changes = store.pending.iter().map(|pending| &pending.changes);
+        let mut pages: Vec<usize> = changes
+            .filter(|changes| !changes.written.is_empty())
+            .flat_map(in_order_of_change)
             .filter(|frame| store.geometry.page_at(*frame).is_some())
             .collect();
         let rising = pages.windows(LEAST).any(|row| row.is_sorted());

@@ -123,7 +123,8 @@ fn print_summary(options: &Options, lists: &Tally, doctored: &Tally, begun: Inst
     let (directories, empties) = (lists.directories.table(), lists.empties.lists_table());
     print!("{}{limits}{cuts}{directories}{empties}", lists.table());
     println!(
-        "{} doctored records, {} sentences of question 2 broken, {} doctored cards, {} calls on them",
+        "{} doctored records, {} sentences of question 2 broken, {} doctored cards, \
+         {} calls on them",
         doctored.doctored_records,
         doctored.broken.len(),
         doctored.doctored_cards,

@@ -145,10 +145,7 @@ impl<'t, L: Library, R: Reference> Trial<'t, L, R> {
         self.compare_memory(call, &exchange.answer, lent)?;
         self.note_sizes(call, &exchange.answer, lent);
         self.note_empties(call, &exchange.answer, amid);
-        if let Some(store) = &self.reference.model().store {
-            let directories = &mut self.tally.directories;
-            directories.count_made(call, &exchange.answer, &entries, store);
-        }
+        self.note_directories(call, &exchange.answer, &entries);
         let whole =
             matches!(call, Call::Format { .. } | Call::Start) || self.made.is_multiple_of(32);
         if whole || self.geometry.blocks <= COMPARED_WHOLE {
@@ -196,6 +193,14 @@ impl<'t, L: Library, R: Reference> Trial<'t, L, R> {
         empties.count_made(call, answer, self.reference.model(), &mut self.home);
         if let Some(amid) = amid.filter(|_| answer.is_done()) {
             empties.count_start(amid);
+        }
+    }
+
+    /// `before` is the current directory before a change.
+    fn note_directories(&mut self, call: &Call, answer: &Answer, before: &[Entry]) {
+        if let Some(store) = &self.reference.model().store {
+            let directories = &mut self.tally.directories;
+            directories.count_made(call, answer, before, store);
         }
     }
 

@@ -2,6 +2,7 @@
 //! the trials know it.
 
 use crate::library::Record;
+use crate::list::numbers;
 use model::blocks::{number, put_number};
 use model::generation::{Changes, Committed};
 use model::{Phase, Store};
@@ -115,7 +116,10 @@ pub fn put_entry(record: &mut Record, directory: Directory, i: usize, entry: Ent
 
 /// Does the record say what the model says?
 pub fn compare(record: &Record, store: &Store) -> Result<(), String> {
-    for (at, size) in sizes(store).into_iter().chain(pending_sizes(store)) {
+    let ranges = numbers(&store.geometry).into_iter().enumerate();
+    let ranges = ranges.map(|(i, number)| (RANGE_NUMBERS + 4 * i, number as usize));
+    let sizes = sizes(store).into_iter().chain(pending_sizes(store));
+    for (at, size) in sizes.chain(ranges) {
         let told = size_at(record, at);
         if told != size {
             return Err(format!("record byte {at} tells {told}, the model {size}"));
