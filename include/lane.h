@@ -200,6 +200,7 @@ typedef struct {
     size_t head;
     lane_geometry geometry;
     uint32_t commit;
+    uint32_t phase;
     size_t first;
     size_t pages;
     lane_directory committed;
@@ -207,9 +208,8 @@ typedef struct {
     lane_changes pending;
     size_t tail;
     lane_changes current;
-    size_t phase;
 } lane_store;
-LANE_SIZE(lane_store, 2512);
+LANE_SIZE(lane_store, 2504);
 
 /* What lane_key answers: LANE_DONE and the present count, or the refusal and 0. */
 typedef struct {

@@ -33,6 +33,7 @@ fn recovered(card: &[u8], memory: &[u8], c: Checkpoint) -> Store
         head: 0,
         geometry: geometry,
         commit: h.commit,
+        phase: 2,
         first: x.first,
         pages: x.pages,
         committed: committed,
@@ -40,7 +41,6 @@ fn recovered(card: &[u8], memory: &[u8], c: Checkpoint) -> Store
         pending: pending,
         tail: 0,
         current: current,
-        phase: 2,
     }
 }
 

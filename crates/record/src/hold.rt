@@ -143,7 +143,7 @@ fn flushed_holds(migrated: usize, committed: usize, tail: usize, pending: usize)
     committed <= migrated
 }
 
-fn phase_holds(phase: usize, migrated: usize, committed: usize, tail: usize, pending: usize) -> bool
+fn phase_holds(phase: u32, migrated: usize, committed: usize, tail: usize, pending: usize) -> bool
     requires { ⌜ pending ≤ 65536 ⌝ }
     ensures { λ r. ⌜ r ≡ phaseHolds phase migrated committed tail pending ⌝ }
 {
@@ -168,7 +168,7 @@ fn order_holds(
     tail: usize,
     pending: usize,
     waiting: usize,
-    phase: usize,
+    phase: u32,
 ) -> bool
     requires { ⌜ pending ≤ 65536 ⌝ }
     ensures { λ r. ⌜ r ≡ orderHolds migrated committed tail pending waiting phase ⌝ }

@@ -25,16 +25,18 @@ pub struct Changes {
 }
 
 // `frames` is the number of memory frames. Those that wait stand in them one after the other from `head` on, the
-// pending ones first; after the last comes the first. `first`, `pages` and `committed` are the committed generation's
-// first block, its p, and its directory, by rising frame as the others. `migrated` counts committed entries copied home or passed
-// over, `tail` the pending directory's and trailer's blocks that are down. `phase` tells how flushes stand: 0, writing;
-// 1, flushed for the header write; 2, the flush after a header write or a start is owed.
+// pending ones first; after the last comes the first. `phase` tells how flushes stand: 0, writing; 1, flushed for the
+// header write; 2, the flush after a header write or a start is owed. `first`, `pages` and `committed` are the
+// committed generation's first block, its p, and its directory, by rising frame as the others. `migrated` counts
+// committed entries copied home or passed over, `tail` the pending directory's and trailer's blocks that are down.
+// There is no gap between the fields: a record that is put together anew from the same fields has the same bytes.
 #[repr(C)]
 pub struct Store {
     pub frames: usize,
     pub head: usize,
     pub geometry: Geometry,
     pub commit: u32,
+    pub phase: u32,
     pub first: usize,
     pub pages: usize,
     pub committed: Directory,
@@ -42,7 +44,6 @@ pub struct Store {
     pub pending: Changes,
     pub tail: usize,
     pub current: Changes,
-    pub phase: usize,
 }
 
 // A generation without a change.
@@ -80,6 +81,7 @@ pub fn zeros() -> Store
         head: 0,
         geometry: geometry,
         commit: 0,
+        phase: 0,
         first: 0,
         pages: 0,
         committed: committed,
@@ -87,6 +89,5 @@ pub fn zeros() -> Store
         pending: pending,
         tail: 0,
         current: current,
-        phase: 0,
     }
 }

@@ -39,6 +39,7 @@ pub struct Record {
     head: usize,
     geometry: Geometry,
     commit: u32,
+    phase: u32,
     first: usize,
     pages: usize,
     committed: Directory,
@@ -46,7 +47,6 @@ pub struct Record {
     pending: Changes,
     tail: usize,
     current: Changes,
-    phase: usize,
 }
 
 /// What key answers.
@@ -76,13 +76,13 @@ const _: () = {
     assert!(offset_of!(Directory, places) == 520);
     assert!(size_of::<Changes>() == 792);
     assert!(offset_of!(Changes, places) == 536);
-    assert!(size_of::<Record>() == 2512);
+    assert!(size_of::<Record>() == 2504);
     assert!(offset_of!(Record, geometry) == 16);
+    assert!(offset_of!(Record, phase) == 108);
     assert!(offset_of!(Record, first) == 112);
     assert!(offset_of!(Record, committed) == 128);
     assert!(offset_of!(Record, pending) == 912);
     assert!(offset_of!(Record, current) == 1712);
-    assert!(offset_of!(Record, phase) == 2504);
     assert!(size_of::<Present>() == 8);
     assert!(offset_of!(Present, count) == 4);
     assert!(size_of::<Report>() == 16);

@@ -8,7 +8,6 @@ use lane::c::{
     lane_start, lane_write, Present, Report,
 };
 use model::Kind;
-use std::ops::Range;
 
 /// `lane_store`, of which only the size is known here, and a margin after it
 /// that no call may touch.
@@ -18,8 +17,6 @@ pub struct Record(pub [u8; RECORD + MARGIN]);
 
 pub const RECORD: usize = lane::Store::RECORD;
 const MARGIN: usize = 64;
-/// The bytes between two fields of `lane_store` that belong to none.
-pub const PADDING: Range<usize> = 108..112;
 
 impl Record {
     pub const ZEROS: Record = Record([0; RECORD + MARGIN]);

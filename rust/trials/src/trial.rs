@@ -5,7 +5,7 @@ use crate::call::{Answer, Buffer, Call};
 use crate::doctored::form::{self, Entry};
 use crate::drive::Drive;
 use crate::empties::{amid, Amid, Home};
-use crate::library::{Library, Record, PADDING, RECORD};
+use crate::library::{Library, Record, RECORD};
 use crate::limits::{told, FULL};
 use crate::list::Lending;
 use crate::reference::{Reference, Reply};
@@ -244,7 +244,6 @@ impl<'t, L: Library, R: Reference> Trial<'t, L, R> {
             expected[..RECORD].copy_from_slice(&record[..RECORD]);
         } else if *call == Call::Start {
             expected[..RECORD].fill(0);
-            expected[PADDING].copy_from_slice(&record[PADDING]);
         }
         match difference(record, &expected) {
             None => Ok(()),

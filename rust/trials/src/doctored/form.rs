@@ -17,6 +17,11 @@ pub const AREA: usize = 24;
 pub const RANGES: usize = 32;
 pub const RANGE_NUMBERS: usize = 40;
 pub const COMMIT: usize = 104;
+/// How flushes stand, and its three numbers.
+pub const PHASE: usize = 108;
+pub const WRITING: usize = 0;
+pub const FLUSHED: usize = 1;
+pub const OWED: usize = 2;
 pub const FIRST: usize = 112;
 pub const PAGES: usize = 120;
 pub const COMMITTED: Directory = Directory {
@@ -43,11 +48,6 @@ pub const CURRENT: Directory = Directory {
     down: 1728,
     frames: 1736,
 };
-/// How flushes stand, and its three numbers.
-pub const PHASE: usize = 2504;
-pub const WRITING: usize = 0;
-pub const FLUSHED: usize = 1;
-pub const OWED: usize = 2;
 /// Bytes of a frame's number. A place has one.
 const WIDTH: usize = 2;
 
