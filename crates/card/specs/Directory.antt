@@ -14,7 +14,8 @@ use Rattle.card.specs.Bytes.{tabulate, pairs, getU32, words, pad}
 use Rattle.card.specs.Ring.{ringAt}
 use Rattle.card.specs.declared.directory.Entry.{Entry}
 
--- entries held in two arrays, of frames and of places: entry i, and the first n; place i is the block i on from the generation's first
+-- entries held in two arrays, of frames and of places: entry i, and the first n; place i is the block i on from the
+-- generation's first
 abbrev pub entryIn : ℕ → ℕ → List ℕ → List ℕ → ℕ → Entry
 entryIn area first frames places i = record { frame = getD frames i 0; block = ringAt area first (getD places i 0) }
 

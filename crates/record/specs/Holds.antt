@@ -73,7 +73,8 @@ spansHold s =
     sizesHold (s .geometry .area) (committedSizeOf s) (sizeOf (s .pending)) (sizeOf (s .current))
     && (orderHolds (s .migrated) (s .committed .count) (s .tail) (s .pending .count) (waits (s .pending)) (s .phase) && memoryHolds (s .frames) (s .head) (waits (s .pending) + waits (s .current)))
 
--- A directory of n entries names home blocks, by rising frame (#109), so none twice, and its blocks are among the p page blocks of its own stretch.
+-- A directory of n entries names home blocks, by rising frame (#109), so none twice, and its blocks are among the p
+-- page blocks of its own stretch.
 unfoldable pub directoryHolds : ℕ → ℕ → ℕ → List ℕ → List ℕ → ℕ → Bool
 directoryHolds area blocks p frames places n = allRising (area + 1) blocks (cells frames 0 n) && allWithin 0 p (cells places 0 n)
 

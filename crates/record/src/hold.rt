@@ -286,8 +286,8 @@ fn changes_hold<'a>(
     list::all_stand(places, n, d, p)
 }
 
-// An empty directory is settled first: it need not be copied, and its places may be many. `current_listed` differs in a name only: one function for both that took the
-// generation by value would copy it twice.
+// An empty directory is settled first: it need not be copied, and its places may be many. `current_listed` differs in
+// a name only: one function for both that took the generation by value would copy it twice.
 fn pending_listed(s: Store) -> bool
     requires { ⌜ (countsHold s ≡ true) × (spansHold s ≡ true) ⌝ }
     ensures { λ r. ⌜ r ≡ changesHold (s .geometry .area) (s .geometry .blocks) (s .pending) ⌝ }

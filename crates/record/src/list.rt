@@ -1,5 +1,5 @@
-// Arrays of 256 numbers, of 16 bits or, for places, of 8, of which the first n matter. A loop that asks of every element has no early exit and one comparison, so that
-// it is compiled to vector code.
+// Arrays of 256 numbers, of 16 bits or, for places, of 8, of which the first n matter. A loop that asks of every
+// element has no early exit and one comparison, so that it is compiled to vector code.
 use card::number;
 ghost use mathlib.Core.Bool.{_&&_};
 ghost use mathlib.Core.Path.{_≡_};

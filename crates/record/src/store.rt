@@ -12,9 +12,9 @@ pub struct Geometry {
     pub ranges: [u32; 16],
 }
 
-// The pending or the current generation: e entries by rising frame, each a frame and the last place that it took; p places taken; places put down.
-// Place i is the block i on from the generation's first: a generation's size is at most 256, so that a byte holds its places. A frame waits where its place
-// is not down.
+// The pending or the current generation: e entries by rising frame, each a frame and the last place that it took; p
+// places taken; places put down. Place i is the block i on from the generation's first: a generation's size is at
+// most 256, so that a byte holds its places. A frame waits where its place is not down.
 #[repr(C)]
 pub struct Changes {
     pub count: usize,

@@ -1,4 +1,5 @@
--- Entries by rising frame tell what entries in order of first change told, for any list of changes and page-outs (document 02, #109).
+-- Entries by rising frame tell what entries in order of first change told, for any list of changes and page-outs
+-- (document 02, #109).
 -- Assumes nothing.
 use Prim.Native.Nat.{ℕ, suc, _+_, _-_, _≤_, _<_}
 use borrow.Author.Tests.{ltb-true, eqb-true, eqb-false, eq-eqb, ne-eqb}

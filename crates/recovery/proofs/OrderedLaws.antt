@@ -1,4 +1,5 @@
--- The steps of a generation with its entries by rising frame are the steps of the sorted one, and question 2's facts about its entries are kept.
+-- The steps of a generation with its entries by rising frame are the steps of the sorted one, and question 2's facts
+-- about its entries are kept.
 -- Assumes nothing.
 use Prim.Native.Nat.{ℕ, zero, suc, _+_, _-_, _≤_, _<_}
 use borrow.Author.Tests.{ltb-true, ltb-false, eqb-true, eqb-false, lt-ltb, le-ltb, ne-eqb}

@@ -1,5 +1,5 @@
--- The older form of a generation, with its entries in order of first change (document 01, 'A generation'), and that the one by rising frame tells the same
--- (document 02, #109). No call uses the older form.
+-- The older form of a generation, with its entries in order of first change (document 01, 'A generation'), and that
+-- the one by rising frame tells the same (document 02, #109). No call uses the older form.
 -- Assumes nothing.
 use Prim.Native.Nat.{ℕ, _≤_, _<_}
 use lib.Dec.{ltb, eqb}

@@ -35,7 +35,8 @@ Rises (e ∷ es) = All (λ x. e .frame < x .frame) es × Rises es
 abbrev pub Holds : ℕ → ℕ → List Note → Type 0
 Holds f k es = All (λ e. (e .frame ≡ f → e .place ≡ k) × (e .place ≡ k → e .frame ≡ f)) es
 
--- The entries rise and name only places that are taken; every place that is not down is the last one of exactly one entry.
+-- The entries rise and name only places that are taken; every place that is not down is the last one of exactly one
+-- entry.
 pub record Ordered (g : Generation) : Type 0 where
   pub rises : Rises (g .entries)
   pub taken : All (λ e. e .place < places g) (g .entries)

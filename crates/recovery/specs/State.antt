@@ -17,8 +17,9 @@ pub record Committed : Type 0 where
   pub places : ℕ
   pub entries : List Entry
 
--- The pending or the current generation: its first block, how many of its places are down, its entries by rising frame, and the bytes of the
--- places that are not down, oldest first. Place i is the block i places on from the first, from the moment it is taken. Without entries: none is pending.
+-- The pending or the current generation: its first block, how many of its places are down, its entries by rising
+-- frame, and the bytes of the places that are not down, oldest first. Place i is the block i places on from the
+-- first, from the moment it is taken. Without entries: none is pending.
 pub record Generation : Type 0 where
   pub first : ℕ
   pub pagesDown : ℕ

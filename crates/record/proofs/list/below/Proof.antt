@@ -1,4 +1,5 @@
--- `record::list::below` meets its contract. The loop's invariant: of the elements passed, the first k are below x, and no other.
+-- `record::list::below` meets its contract. The loop's invariant: of the elements passed, the first k are below x,
+-- and no other.
 -- Assumes nothing.
 use Prim.Native.Nat.{_-_, _≤_}
 use mathlib.Core.Logic.{⊎-elim}

@@ -1,4 +1,5 @@
--- `record::list::rising` meets its contract. The loop's invariant: what is left and the answer so far give the whole answer.
+-- `record::list::rising` meets its contract. The loop's invariant: what is left and the answer so far give the whole
+-- answer.
 -- Assumes nothing.
 use Prim.Native.Nat.{_-_, _≤_}
 use borrow.Author.Tests.{lt-ltb, le-ltb}
