@@ -13,24 +13,25 @@ use mathlib.Core.Path.{_≡_, refl, ap, sym, _∙_, subst}
 use native.Mathlib.Omega.{arith}
 use Rattle.card.proofs.AllLaws.{all-map, all-both}
 use Rattle.card.proofs.Test.{byTest, tests-swap, tests-twice}
+use Rattle.card.specs.Block.{blockAt}
 use Rattle.card.specs.Bytes.{All}
 use Rattle.card.specs.Directory.{dirBlock}
 use Rattle.card.specs.Ring.{ringAt}
 use Rattle.card.specs.declared.directory.Entry.{Entry}
 use Rattle.recovery.proofs.Follows.{empty-ordered}
-use Rattle.recovery.proofs.NoteLaws.{lookup-byFrame, rising-byFrame, rising-ext, rises-single}
+use Rattle.recovery.proofs.NoteLaws.{Single, lookup-byFrame, rising-byFrame, rising-ext, rises-single}
 use Rattle.recovery.proofs.OrderedLaws.{change-one, out-ordered}
 use Rattle.recovery.proofs.PlaceLaws.{lookup-none}
 use Rattle.recovery.proofs.Sorted.{lookup}
+use Rattle.recovery.proofs.SumLaws.{one-entry}
 use Rattle.recovery.proofs.WaitLaws.{wait-same}
-use Rattle.recovery.specs.Contents.{FrameBytes}
+use Rattle.recovery.specs.Contents.{Contents, FrameBytes, overlay, storedFrames}
 use Rattle.recovery.specs.Directory.{Note, noteChange, downEntries, dirOf, frameOf, turnOf}
-use Rattle.recovery.specs.FirstChange.{noteFirst, queuedFirst, Change, changed, down, downIfAny, heldFirst, heldByFrame, Alike, SameAsFirst}
-use Rattle.recovery.specs.Sound.{Unnoted, Single, Holds, Ordered}
-use Rattle.recovery.specs.State.{Generation, places, entryCount, empty, directoryOf, waitingFrames}
+use Rattle.recovery.specs.FirstChange.{noteFirst, queuedFirst, Change, changed, down, downIfAny, heldFirst, heldByFrame, shows, Alike, SameAsFirst, SameReads}
+use Rattle.recovery.specs.Sound.{Unnoted, Holds, Ordered}
+use Rattle.recovery.specs.State.{Generation, places, entryCount, empty, directoryOf, waitingFrames, readFrame}
 use Rattle.recovery.specs.Step.{queued, changeFrame, outOf}
 use Rattle.recovery.specs.Sums.{notedIn}
-use Rattle.recovery.proofs.SumLaws.{one-entry}
 
 -- ---- what entries say of a frame: the place of its first entry
 
@@ -271,7 +272,7 @@ module _ (a b : Generation) (h : Beside a b) where
     waits-is = waits-are;
     dir-is = directories-are;
     block-is = λ area j. ap (λ (es : List Entry). dirBlock es j) (directory-is area);
-    shows-is = λ area c below f. rw (waits-are, directory-is area);
+    shows-is = λ area c below. rw (waits-are, directory-is area);
   }
 
 besides : (cs : List Change) (first : ℕ) → Beside (heldFirst cs first) (heldByFrame cs first)
@@ -282,6 +283,13 @@ besides (down ∷ cs) first = step-down (heldFirst cs first) (heldByFrame cs fir
 
 pub same-as-first : SameAsFirst
 same-as-first cs first = alike (heldFirst cs first) (heldByFrame cs first) (besides cs first)
+
+pub same-reads : SameReads
+unfolding readFrame
+same-reads s c cs ps first next =
+    let committed : Contents = overlay (storedFrames c (s .committed .entries)) (blockAt c) in
+    same-as-first cs first .shows-is (s .area) c (shows (s .area) (heldByFrame ps next) c committed)
+    ∙ ap (shows (s .area) (heldFirst cs first) c) (same-as-first ps next .shows-is (s .area) c committed)
 
 -- ---- the two forms differ: of 10, 9 and, put down, 10 again the older one has 10 first, with its last place
 

@@ -18,14 +18,14 @@ use Rattle.card.proofs.Test.{byTest}
 use Rattle.card.specs.Bytes.{All}
 use Rattle.card.specs.declared.directory.Entry.{Entry}
 use Rattle.recovery.proofs.ContentsLaws.{length-insertByFrame-new}
-use Rattle.recovery.proofs.NoteLaws.{lookup-byFrame, rises-single, below-unnoted, all-note, rises-note}
+use Rattle.recovery.proofs.NoteLaws.{Single, lookup-byFrame, rises-single, below-unnoted, all-note, rises-note}
 use Rattle.recovery.proofs.PlaceLaws.{lookup-other, dir-change, dir-out}
 use Rattle.recovery.proofs.SizeLaws.{pagedOut-count}
 use Rattle.recovery.proofs.Sorted.{withoutFrame, queueChange, Absent, lookup, SortedGeneration, placesOf, countOf, sizeOf, sortedGeneration, oldest, pagedOut, queueAll, withoutAll}
 use Rattle.recovery.proofs.WaitLaws.{length-waiting, wait-same, wait-last, queue-new, wait-without, wait-again, frame-new, frame-other}
 use Rattle.recovery.specs.Contents.{FrameBytes}
 use Rattle.recovery.specs.Directory.{Note, noteChange, byFrame, downEntries, dirOf, frameOf, waitingFrom, turnOf}
-use Rattle.recovery.specs.Sound.{Unnoted, Single, Rises, Holds, Ordered}
+use Rattle.recovery.specs.Sound.{Unnoted, Rises, Holds, Ordered}
 use Rattle.recovery.specs.State.{places, Generation, entryCount, size, directoryOf, waitingFrames}
 use Rattle.recovery.specs.Step.{queued, changeFrame, changeFrames, oldestBytes, outOf}
 

@@ -16,14 +16,14 @@ use Rattle.card.proofs.Test.{byTest}
 use Rattle.card.specs.Bytes.{All}
 use Rattle.card.specs.Ring.{dirBlocks}
 use Rattle.card.specs.declared.directory.Entry.{Entry}
+use Rattle.recovery.proofs.NoteLaws.{below-unnoted, rises-note}
 use Rattle.recovery.specs.Contents.{FrameBytes}
 use Rattle.recovery.specs.Directory.{Note, noteChange, turnOf}
 use Rattle.recovery.specs.Questions.{newPlaces, roomAsks, given, advanceAsks}
+use Rattle.recovery.specs.Sound.{Unnoted, Rises}
 use Rattle.recovery.specs.State.{Generation, State, places, entryCount, size, committedSize, isOwed, isFlushed}
 use Rattle.recovery.specs.Step.{queued, changeFrame, changeFrames, afterChange, Kind, page, directory, trailer, migration, header, flush, migrationDue, advanceDue, migrating, passTo, nextMigration}
 use Rattle.recovery.specs.Sums.{isSome, waitsIn, notedIn, placesNeeded, entriesNeeded, remainingWrites, firstOf, roomSums, advanceSums, leading, movesOf, passedTo, movesLeft}
-use Rattle.recovery.proofs.NoteLaws.{below-unnoted, rises-note}
-use Rattle.recovery.specs.Sound.{Unnoted, Rises}
 
 -- no frame twice
 abbrev pub Distinct : List FrameBytes → Type 0

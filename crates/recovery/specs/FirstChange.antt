@@ -11,8 +11,8 @@ use mathlib.Core.Path.{_≡_}
 use Rattle.card.specs.Directory.{dirBlock}
 use Rattle.recovery.specs.Contents.{Contents, FrameBytes, overlay, storedFrames}
 use Rattle.recovery.specs.Directory.{Note, dirOf, frameOf, turnOf}
-use Rattle.recovery.specs.State.{Generation, places, entryCount, empty, directoryOf, waitingFrames}
-use Rattle.recovery.specs.Step.{changeFrame, outOf}
+use Rattle.recovery.specs.State.{Generation, State, places, entryCount, empty, directoryOf, waitingFrames, readFrame}
+use Rattle.recovery.specs.Step.{changeFrame, outOf, pendingTo, currentTo}
 use Rattle.recovery.specs.Sums.{notedIn}
 
 -- a frame's entry stays where it is, with its new place, or comes last
@@ -68,7 +68,16 @@ pub record Alike (old new : Generation) : Type 0 where
   pub dir-is : (area first put : ℕ) → dirOf area first put (new .entries) ≡ dirOf area first put (old .entries)
   pub block-is : (area j : ℕ) → dirBlock (directoryOf area new) j ≡ dirBlock (directoryOf area old) j
   -- what a read shows of every frame
-  pub shows-is : (area : ℕ) (c : List ℕ) (below : Contents) (f : ℕ) → shows area new c below f ≡ shows area old c below f
+  pub shows-is : (area : ℕ) (c : List ℕ) (below : Contents) → shows area new c below ≡ shows area old c below
 
 abbrev pub SameAsFirst : Type 0
 SameAsFirst = (cs : List Change) (first : ℕ) → Alike (heldFirst cs first) (heldByFrame cs first)
+
+-- the state with these generations current and pending
+abbrev pub holding : Generation → Generation → State → State
+holding current pending s = currentTo current (pendingTo pending (s .tailDown) s)
+
+-- a read of a store shows the same of every frame, whatever its two generations have changed and put down
+abbrev pub SameReads : Type 0
+SameReads = (s : State) (c : List ℕ) (cs ps : List Change) (first next : ℕ)
+    → readFrame (holding (heldByFrame cs first) (heldByFrame ps next) s) c ≡ readFrame (holding (heldFirst cs first) (heldFirst ps next) s) c

@@ -21,11 +21,6 @@ use Rattle.recovery.specs.State.{Generation, State, places, entryCount, 
 abbrev pub Unnoted : ℕ → List Note → Type 0
 Unnoted f es = All (λ e. f ≢ e .frame) es
 
--- no frame stands twice
-abbrev pub Single : List Note → Type 0
-Single [] = Unit {0}
-Single (e ∷ es) = Unnoted (e .frame) es × Single es
-
 -- by rising frame
 abbrev pub Rises : List Note → Type 0
 Rises [] = Unit {0}
@@ -63,7 +58,7 @@ pub record Sound (s : State) : Type 0 where
   pub none-committed : s .commit ≡ 0 → (length (s .committed .entries) ≡ 0) × (s .committed .places ≡ 0) × (s .committed .first ≡ 1)
   pub some-committed : 0 < s .commit → 1 ≤ length (s .committed .entries)
   pub commit-limit : 0 < entryCount (s .pending) → s .commit < 4294967295
-  -- each directory names home blocks, none twice, the committed one rising; its blocks lie in its own stretch
+  -- each directory names home blocks, by rising frame, so none twice; its blocks lie in its own stretch
   pub committed-home : All (Home (s .area) (s .blocks)) (s .committed .entries)
   pub committed-rising : Rising (s .committed .entries)
   pub committed-inside : All (Between (s .area) (s .committed .first) 0 (s .committed .places)) (s .committed .entries)
