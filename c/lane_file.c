@@ -909,6 +909,16 @@ int lane_file_finish(lane_file *lane)
     return lane->stopped ? LANE_FILE_STOPPED : finish(lane);
 }
 
+int lane_file_forecast(const lane_file *lane, uint32_t *advances)
+{
+    *advances = 0;
+    if (lane->stopped)
+        return LANE_FILE_STOPPED;
+    lane_foretold foretold = lane_forecast(LENT(lane));
+    *advances = foretold.advances;
+    return (int)foretold.refusal;
+}
+
 int lane_file_commit(lane_file *lane)
 {
     return lane->stopped ? LANE_FILE_STOPPED : commit(lane);

@@ -1,5 +1,5 @@
 /*
- * The lane page store for C: nine calls over a card, lent memory and one record.
+ * The lane page store for C: ten calls over a card, lent memory and one record.
  * Link target/staticlib/liblane.a (x86-64 Linux), made by `rt staticlib lane`.
  *
  * Who keeps the card in a file or on a block device has lane_file.h, which does all that follows. This
@@ -22,8 +22,8 @@
  *
  * Threads: records are independent of each other, since the library has no global state. Two threads
  * may use two records at once, each with its own card and memory. One record is used by one call at
- * a time, but that lane_key and lane_read, which take it const, may run beside each other on it,
- * each read with its own buffer.
+ * a time, but that lane_key, lane_read and lane_forecast, which take it const, may run beside each
+ * other on it, each read with its own buffer.
  *
  * A call takes less than 16 KiB of stack (measured; the proofs say nothing of the stack), not counting
  * some 3 KiB that the loader may take at the first memcpy, memmove or memset of a program that binds
@@ -218,6 +218,13 @@ typedef struct {
 } lane_present;
 LANE_SIZE(lane_present, 8);
 
+/* What lane_forecast answers: LANE_DONE and the number of advances, or the refusal and 0. */
+typedef struct {
+    uint32_t refusal;
+    uint32_t advances;
+} lane_foretold;
+LANE_SIZE(lane_foretold, 8);
+
 /* What lane_page_out and lane_advance answer. Done: the kind, LANE_DONE, and the block written (0 for
    LANE_F, which writes none). Refused: LANE_REFUSED, the refusal, and block 0. */
 typedef struct {
@@ -292,6 +299,16 @@ lane_report lane_page_out(lane_store *s, uint8_t *card, size_t card_len, const u
    Answers LANE_MEMORY 1, LANE_RECORD 2, LANE_CARD 3, LANE_NOTHING_DUE 20. */
 lane_report lane_advance(lane_store *s, uint8_t *card, size_t card_len, const uint8_t *memory,
                          size_t memory_len);
+
+/* Gives how many advances are left until the pending snapshot is safe: up to and with the LANE_F after
+   its LANE_H, each flush counted. With none pending it is 1 while the flush after a header write or a
+   start is due, else 0. Changes nothing.
+   Each advance takes one off while it is above 0, and so does a page-out of a pending frame; the last
+   but one is LANE_H, the last LANE_F: at 0 the snapshot is safe once that flush is done. Writes,
+   rescinds, reads, keys and refused calls leave it as it is. A start begins anew, at 1.
+   Answers LANE_MEMORY 1, LANE_RECORD 2, LANE_CARD 3. */
+lane_foretold lane_forecast(const lane_store *s, const uint8_t *card, size_t card_len,
+                            const uint8_t *memory, size_t memory_len);
 
 #ifdef __cplusplus
 }

@@ -67,9 +67,9 @@
  *   The promise, an option, says how far this is asked.
  *
  * Threads: lanes are independent of each other; there is no global state. One lane is used by one call at a
- * time, from any thread, but that lane_file_key and lane_file_read, which take it const, may run beside each
- * other. No call is for a signal handler. A call takes the stack that lane.h names for the library's, and a
- * little more.
+ * time, from any thread, but that lane_file_key, lane_file_read and lane_file_forecast, which take it const, may
+ * run beside each other. No call is for a signal handler. A call takes the stack that lane.h names for the
+ * library's, and a little more.
  */
 #ifndef LANE_FILE_INCLUDED
 #define LANE_FILE_INCLUDED
@@ -177,8 +177,8 @@ int lane_file_write(lane_file *lane, uint32_t oid, uint32_t count, size_t at, co
 int lane_file_rescind(lane_file *lane, uint32_t oid, uint32_t count);
 
 /*
- * Commits. Each answers LANE_FILE_STOPPED on a stopped lane, and all but lane_file_snapshot LANE_FILE_WRITE or
- * LANE_FILE_FLUSH where the drive fails.
+ * Commits. Each answers LANE_FILE_STOPPED on a stopped lane, and all but lane_file_snapshot and lane_file_forecast
+ * LANE_FILE_WRITE or LANE_FILE_FLUSH where the drive fails.
  */
 
 /* Commits all that has changed: finishes what is pending, marks, and finishes that. Done, no cut takes it away;
@@ -193,6 +193,13 @@ int lane_file_snapshot(lane_file *lane);
 
 /* Makes the last snapshot safe: advances until the F after its H. Nothing pending, it does nothing. */
 int lane_file_finish(lane_file *lane);
+
+/* Gives how many block writes and flushes are left until the last snapshot is safe, for a display: so many as
+   lane_file_finish then makes, or lane_file_advance in so many calls. 0 where it is safe, or there was none since the
+   open; stopped, 0 too. Changes nothing.
+   A write or a rescind leaves the number as it is, unless it makes room: what it makes then may take from it, down
+   to 0. A block that was paged out is counted no more, though it may go to the drive with the next ones. */
+int lane_file_forecast(const lane_file *lane, uint32_t *advances);
 
 /* One step of what is due, for a lane that has a moment: one block, handed to the drive at once, or one flush.
    *report says which, if report is not NULL; kind LANE_REFUSED unless the answer is LANE_DONE.

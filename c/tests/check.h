@@ -44,11 +44,19 @@ static inline int shown(const lane_file *lane, uint32_t oid)
     return page[0];
 }
 
+/* How many block writes and flushes are left until the last snapshot is safe. */
+static inline int forecast(const lane_file *lane)
+{
+    uint32_t advances;
+    IS(lane_file_forecast(lane, &advances), LANE_DONE);
+    return (int)advances;
+}
+
 /* Every call of a stopped lane. */
 static inline void is_stopped(lane_file *lane)
 {
     uint8_t page[LANE_BLOCK] = {0};
-    uint32_t count;
+    uint32_t count, advances = 7;
     lane_report report;
     IS(lane_file_key(lane, FIRST, &count), LANE_FILE_STOPPED);
     IS(lane_file_read(lane, FIRST, 0, page), LANE_FILE_STOPPED);
@@ -58,6 +66,8 @@ static inline void is_stopped(lane_file *lane)
     IS(lane_file_finish(lane), LANE_FILE_STOPPED);
     IS(lane_file_commit(lane), LANE_FILE_STOPPED);
     IS(lane_file_settle(lane), LANE_FILE_STOPPED);
+    IS(lane_file_forecast(lane, &advances), LANE_FILE_STOPPED);
+    IS(advances, 0);
     IS(lane_file_advance(lane, &report), LANE_FILE_STOPPED);
     IS(report.kind, LANE_REFUSED);
 }

@@ -20,6 +20,7 @@ typedef struct {
     uint8_t down[BYTES]; /* all that was flushed */
     int writes, flushes, reads, closes;
     int fail_write, fail_flush, fail_read; /* the one that fails, by its number */
+    int blocks;                            /* of all writes */
     int several;                           /* calls of write_runs */
     char log[4096];
 } memory_drive;
@@ -63,6 +64,7 @@ static int drive_write(void *self, uint64_t at, const void *bytes, size_t n)
     HOLDS(at > 0 || n == LANE_BLOCK);
     snprintf(text, sizeof text, "w%d+%d ", (int)(at / LANE_BLOCK), (int)(n / LANE_BLOCK));
     note(d, text);
+    d->blocks += (int)(n / LANE_BLOCK);
     int failed = ++d->writes == d->fail_write;
     if (at > 0 || !failed)
         memcpy(d->now + at, bytes, failed ? n / 2 : n);
@@ -187,8 +189,10 @@ static void flush_due(void)
     for (uint32_t i = 0; i < 3; i++)
         IS(fill(lane, FIRST + 2 + i, 1), LANE_DONE);
     logged(&d, "");
+    IS(forecast(lane), 1);
     IS(fill(lane, FIRST + 5, 1), LANE_DONE);
     logged(&d, "f ");
+    IS(forecast(lane), 0);
     IS(lane_file_finish(lane), LANE_DONE); /* that flush was the snapshot's */
     logged(&d, "");
     lane_file_close(lane);
@@ -207,6 +211,7 @@ static void snapshot_after_header(void)
     d.log[0] = '\0';
     IS(fill(lane, FIRST, 2), LANE_DONE);
     IS(lane_file_snapshot(lane), LANE_DONE);
+    IS(forecast(lane), 9);
     IS(lane_file_finish(lane), LANE_DONE);
     logged(&d, "f w5+3 w13+2 f w0+1 f ");
     lane_file_close(lane);
@@ -235,6 +240,75 @@ static void header_by_itself(void)
     IS(lane_file_advance(lane, &report), LANE_DONE);
     IS(report.kind, LANE_H);
     logged(&d, "w0+1 w1+1 ");
+    lane_file_close(lane);
+}
+
+/* Finish makes so many block writes and flushes as were foretold, and the forecast none. */
+static void as_foretold(memory_drive *d, lane_file *lane, int wanted)
+{
+    int made = d->blocks + d->flushes + d->reads;
+    IS(forecast(lane), wanted);
+    IS(d->blocks + d->flushes + d->reads, made);
+    IS(lane_file_finish(lane), LANE_DONE);
+    IS(d->blocks + d->flushes + d->reads, made + wanted);
+    IS(forecast(lane), 0);
+}
+
+/* Commits one after the other: a page and its pot; two pages and the pot, with two frames to bring home; with all
+   home a page that is rescinded again; the next one, which takes home the pot of that page and not the page. */
+static void foretold(int with_runs)
+{
+    memory_drive d = new_drive(WIDE);
+    lane_file *lane = created(&d, WIDE, with_runs, 0);
+    as_foretold(&d, lane, 0);
+    IS(fill(lane, FIRST, 1), LANE_DONE);
+    as_foretold(&d, lane, 0); /* none is pending */
+    IS(lane_file_snapshot(lane), LANE_DONE);
+    as_foretold(&d, lane, 7);
+    IS(fill(lane, FIRST, 2), LANE_DONE);
+    IS(fill(lane, FIRST + 1, 2), LANE_DONE);
+    IS(lane_file_snapshot(lane), LANE_DONE);
+    as_foretold(&d, lane, 10);
+    IS(lane_file_settle(lane), LANE_DONE);
+    IS(fill(lane, FIRST + 2, 3), LANE_DONE);
+    IS(lane_file_rescind(lane, FIRST + 2, 0), LANE_DONE);
+    IS(lane_file_snapshot(lane), LANE_DONE);
+    as_foretold(&d, lane, 7);
+    IS(fill(lane, FIRST + 3, 4), LANE_DONE);
+    IS(lane_file_snapshot(lane), LANE_DONE);
+    as_foretold(&d, lane, 8);
+    lane_file_close(lane);
+}
+
+/* Before the snapshot two pages and the pot are paged out, and the pot changes again: four frames wait. */
+static void foretold_after_page_outs(void)
+{
+    memory_drive d = new_drive(WIDE);
+    lane_file *lane = created(&d, WIDE, 0, LANE_FRAMES_MIN);
+    for (uint32_t i = 0; i < 5; i++)
+        IS(fill(lane, FIRST + i, 1), LANE_DONE);
+    IS(lane_file_advance(lane, NULL), LANE_NOTHING_DUE); /* hands over what was paged out */
+    IS(lane_file_snapshot(lane), LANE_DONE);
+    as_foretold(&d, lane, 9);
+    lane_file_close(lane);
+}
+
+/* A write that pages out frames of the snapshot takes one off for each; of frames that changed since, none. */
+static void foretold_over_page_outs(void)
+{
+    memory_drive d = new_drive(WIDE);
+    lane_file *lane = created(&d, WIDE, 0, LANE_FRAMES_MIN);
+    IS(fill(lane, FIRST, 1), LANE_DONE);
+    IS(lane_file_snapshot(lane), LANE_DONE);
+    IS(forecast(lane), 7);
+    for (uint32_t i = 1; i < 4; i++) {
+        IS(fill(lane, FIRST + i, 1), LANE_DONE);
+        IS(forecast(lane), 8 - (int)i);
+    }
+    IS(fill(lane, FIRST + 4, 1), LANE_DONE);
+    IS(forecast(lane), 5);
+    IS(lane_file_advance(lane, NULL), LANE_DONE);
+    as_foretold(&d, lane, 4);
     lane_file_close(lane);
 }
 
@@ -473,6 +547,10 @@ int main(int argc, char **argv)
     flush_due();
     snapshot_after_header();
     header_by_itself();
+    foretold(0);
+    foretold(1);
+    foretold_after_page_outs();
+    foretold_over_page_outs();
     every_failure(0);
     every_failure(1);
     read_fails();

@@ -171,6 +171,118 @@ static void passed_over(const char *path)
     lane_file_close(lane);
 }
 
+/* Calls that leave the forecast as it is, the last two refused. */
+static void changed_meanwhile(lane_file *lane, int wanted)
+{
+    uint32_t count;
+    IS(fill(lane, FIRST, 2), LANE_DONE);
+    IS(forecast(lane), wanted);
+    IS(lane_file_key(lane, FIRST, &count), LANE_DONE);
+    IS(lane_file_rescind(lane, FIRST, count), LANE_DONE);
+    IS(shown(lane, FIRST), 0);
+    IS(lane_file_rescind(lane, FIRST, count), LANE_COUNT);
+    IS(lane_file_snapshot(lane), LANE_PENDING);
+    IS(forecast(lane), wanted);
+}
+
+/* Every step of a pending snapshot takes one off, with changes between them: the last but one is H, the last F. */
+static void counted_down(lane_file *lane, int wanted, int changing)
+{
+    lane_report report;
+    for (int n = wanted; n > 0; n--) {
+        IS(forecast(lane), n);
+        if (changing && n > 1)
+            changed_meanwhile(lane, n);
+        IS(lane_file_advance(lane, &report), LANE_DONE);
+        HOLDS(n > 2 || report.kind == (n == 2 ? LANE_H : LANE_F));
+    }
+    IS(forecast(lane), 0);
+}
+
+/* The smallest card: P, P, D, T, F, H, F. With both frames still to go home P, D, T, M, M, F, H, F. Alone M takes
+   nothing off, since a snapshot is safe before it. */
+static void forecasts(const char *path)
+{
+    const uint32_t one_page[2] = {FIRST, 1};
+    const lane_file_options options = kill_safe();
+    lane_file *lane;
+    unlink(path);
+    IS(lane_file_create(&lane, path, LANE_AREA_MIN, one_page, 2, &options), LANE_DONE);
+    IS(forecast(lane), 0); /* the first F is made */
+    IS(fill(lane, FIRST, 1), LANE_DONE);
+    IS(forecast(lane), 0);
+    IS(lane_file_snapshot(lane), LANE_DONE);
+    counted_down(lane, 7, 1);
+    lane_file_close(lane); /* what was changed meanwhile is lost */
+    lane = opened(path, options);
+    IS(forecast(lane), 0);
+    IS(fill(lane, FIRST, 3), LANE_DONE);
+    IS(lane_file_snapshot(lane), LANE_DONE);
+    counted_down(lane, 8, 0);
+    IS(lane_file_advance(lane, NULL), LANE_DONE);
+    IS(lane_file_advance(lane, NULL), LANE_NOTHING_DUE);
+    IS(forecast(lane), 0);
+    lane_file_close(lane);
+}
+
+/* A page that may be rescinded before its commit or after it, and then a snapshot with a page that was empty. */
+static void to_bring_home(const char *path, int before, int after, uint32_t next, int wanted)
+{
+    lane_file *lane = created(path, AREA, kill_safe());
+    IS(fill(lane, FIRST, 5), LANE_DONE);
+    if (before)
+        IS(lane_file_rescind(lane, FIRST, 0), LANE_DONE);
+    IS(lane_file_commit(lane), LANE_DONE);
+    if (after)
+        IS(lane_file_rescind(lane, FIRST, 0), LANE_DONE);
+    IS(fill(lane, next, 6), LANE_DONE);
+    IS(lane_file_snapshot(lane), LANE_DONE);
+    counted_down(lane, wanted, 0);
+    lane_file_close(lane);
+}
+
+/* P, P, D, T, M of the page and its pot, F, H, F; without M of a page that is empty in its commit, whatever it is
+   now. */
+static void forecast_passes_over(const char *path)
+{
+    to_bring_home(path, 0, 0, FIRST + 1, 9);
+    to_bring_home(path, 0, 1, FIRST + 1, 9);
+    to_bring_home(path, 1, 0, FIRST + 1, 8);
+    to_bring_home(path, 1, 0, FIRST, 8);
+}
+
+/* So many pages change, none of them empty before. */
+static void changes(lane_file *lane, uint32_t frames, int wanted)
+{
+    for (uint32_t i = 0; i < frames; i++)
+        IS(fill(lane, FIRST + i, 1), LANE_DONE);
+    IS(lane_file_snapshot(lane), LANE_DONE);
+    IS(forecast(lane), wanted);
+    IS(lane_file_finish(lane), LANE_DONE);
+    IS(forecast(lane), 0);
+}
+
+/* The numbers of docs/OPERATING.md: with the last commit home, and with as many frames still to migrate. */
+static void foretold_sizes(const char *path)
+{
+    static const int rows[][3] = {{1, 6, 7}, {2, 7, 9}, {8, 13, 21}, {32, 37, 69}, {64, 69, 133}, {251, 72, 323}};
+    const uint32_t range[2] = {FIRST, 251};
+    lane_file_options options = kill_safe();
+    lane_file *lane;
+    options.room = LANE_ROOM_COMMIT;
+    unlink(path);
+    IS(lane_file_create(&lane, path, LANE_AREA_MAX, range, 2, &options), LANE_DONE);
+    for (uint32_t i = 0; i < range[1]; i++)
+        IS(fill(lane, FIRST + i, 1), LANE_DONE);
+    IS(lane_file_commit(lane), LANE_DONE);
+    for (size_t i = 0; i < sizeof rows / sizeof *rows; i++) {
+        IS(lane_file_settle(lane), LANE_DONE);
+        changes(lane, (uint32_t)rows[i][0], rows[i][1]);
+        changes(lane, (uint32_t)rows[i][0], rows[i][2]);
+    }
+    lane_file_close(lane);
+}
+
 /* Half of the area holds three new pages and their pot. */
 static void generation_full(const char *path, enum lane_file_room room)
 {
@@ -203,7 +315,9 @@ static void area_full(const char *path, enum lane_file_room room)
     IS(fill(lane, FIRST, 2), LANE_DONE);
     IS(fill(lane, FIRST + 1, 2), LANE_DONE);
     IS(lane_file_snapshot(lane), LANE_DONE);
+    IS(forecast(lane), 11);
     IS(fill(lane, FIRST + 2, 2), room == LANE_ROOM_REFUSE ? LANE_AREA_FULL : LANE_DONE);
+    IS(forecast(lane), room == LANE_ROOM_REFUSE ? 11 : 0);
     lane_file_close(lane);
     lane = opened(path, options);
     IS(shown(lane, FIRST), room == LANE_ROOM_REFUSE ? 1 : 2); /* room was made by finishing the snapshot */
@@ -409,6 +523,9 @@ int main(int argc, char **argv)
     commit_over_pending(path);
     steps(path);
     passed_over(path);
+    forecasts(path);
+    forecast_passes_over(path);
+    foretold_sizes(path);
     rooms(path);
     one_at_a_time(path);
     after_fork(path);

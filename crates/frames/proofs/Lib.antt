@@ -15,6 +15,7 @@ pub mod KeepLaws
 pub mod EachLaws
 pub mod CallLaws
 pub mod DueLaws
+pub mod ForecastLaws
 pub mod Run
 pub mod Zeros
 pub mod WorldLaws

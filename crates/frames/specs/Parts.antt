@@ -18,16 +18,16 @@ use Rattle.frames.specs.declared.answer.Wrote.{Wrote}
 use Rattle.frames.specs.declared.answer.Size.{Size}
 use Rattle.record.specs.Holds.{holdsTogether}
 use Rattle.record.specs.Lists.{once, allWithin}
-use Rattle.record.specs.Meaning.{committedOf, stateOf}
+use Rattle.record.specs.Meaning.{committedOf, phaseOf, stateOf}
 use Rattle.record.specs.declared.store.Changes.{Changes}
 use Rattle.record.specs.declared.store.Store.{Store}
 use Rattle.recovery.specs.Book.{WholeFrame}
 use Rattle.recovery.specs.Contents.{FrameBytes, overlay, storedFrames}
 use Rattle.recovery.specs.Directory.{Note}
 use Rattle.recovery.specs.Questions.{roomAsks}
-use Rattle.recovery.specs.State.{State, directoryOf, waitingFrames, readFrame}
+use Rattle.recovery.specs.State.{State, directoryOf, waitingFrames, readFrame, isOwed, isFlushed}
 use Rattle.recovery.specs.Step.{afterChange, Kind, kindWrite, afterKind, startState, migrating}
-use Rattle.recovery.specs.Sums.{placesNeeded, entriesNeeded}
+use Rattle.recovery.specs.Sums.{placesNeeded, entriesNeeded, movesLeft, forecast}
 use Rattle.recovery.specs.Write.{BlockWrite}
 
 -- a block write that is done: the block that is reported, the card, and a record that means the next state and holds together
@@ -57,6 +57,17 @@ pub record Readable (s : Store) (card : List ℕ) : Type 0 where
 -- whether advance has come to migration; memory does not matter
 abbrev pub MigratingIs : Store → Bool → Type 0
 MigratingIs s r = (memory : List ℕ) → r ≡ migrating (stateOf s memory)
+
+-- of a phase: the flush that is owed, and with it the header write and its flushes that are not made
+abbrev pub flushOwed : ℕ → ℕ
+flushOwed phase = cond (isOwed (phaseOf phase)) 1 0
+
+abbrev pub endsLeft : ℕ → ℕ
+endsLeft phase = flushOwed phase + (cond (isFlushed (phaseOf phase)) 0 1 + 2)
+
+-- the forecast, where with a snapshot pending so many entries are to be copied; memory does not matter
+abbrev pub Foretells : Store → ℕ → ℕ → Type 0
+Foretells s moves n = (over : ℕ → Bool) (memory : List ℕ) → (0 < s .pending .count → moves ≡ movesLeft over (stateOf s memory)) → n ≡ forecast over (stateOf s memory)
 
 -- a step on the record alone
 pub record StepDone (next : State → State) (s t : Store) : Type 0 where

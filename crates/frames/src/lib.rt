@@ -2,6 +2,7 @@
 pub mod advance;
 pub mod answer;
 pub mod change;
+pub mod forecast;
 mod kind;
 pub mod load;
 pub mod page_out;

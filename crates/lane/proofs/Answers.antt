@@ -6,11 +6,14 @@ use Rattle.record.proofs.store.Store.Laws as S′
 use Rattle.frames.proofs.answer.Done as Done
 use Rattle.frames.proofs.answer.Done.Laws as Done′
 use Rattle.pages.proofs.answer.Count as Count
+use Rattle.pages.proofs.answer.Forecast as Forecast
 use Rattle.frames.proofs.answer.Advanced as Advanced
 use Rattle.frames.proofs.answer.Advanced.Laws as Advanced′
 use Rattle.frames.proofs.answer.Advance as Advance
 use Rattle.lane.proofs.answer.Counted as Counted
 use Rattle.lane.proofs.answer.Counted.Laws as Counted′
+use Rattle.lane.proofs.answer.Forecasted as Forecasted
+use Rattle.lane.proofs.answer.Forecasted.Laws as Forecasted′
 use Rattle.lane.proofs.answer.Reported as Reported
 use Rattle.lane.proofs.answer.Reported.Laws as Reported′
 use Rattle.lane.proofs.answer.Report as Report
@@ -48,6 +51,23 @@ counted = record {
   make = λ a w. record { answer = a; store = w };
   parts = λ d p. (refl, p .0, p .1 .0);
   pure = λ d. Counted′.the-plain .0 (Counted.the-type .to d .0);
+  whole = λ a w v p q. ((v ∷ [], (_, tt)), (refl, (p, (q, tt))));
+  still = refl;
+}
+
+abbrev pub forecasted : Answer
+forecasted = record {
+  D = Forecasted.the-type;
+  laws = Forecasted′.the-laws;
+  plains = Forecasted′.the-plain;
+  R = Forecast.the-row;
+  τ = _;
+  mir-is = refl;
+  answer = λ d. d .answer;
+  store = λ d. d .store;
+  make = λ a w. record { answer = a; store = w };
+  parts = λ d p. (refl, p .0, p .1 .0);
+  pure = λ d. Forecasted′.the-plain .0 (Forecasted.the-type .to d .0);
   whole = λ a w v p q. ((v ∷ [], (_, tt)), (refl, (p, (q, tt))));
   still = refl;
 }

@@ -9,12 +9,15 @@ use Rattle.card.proofs.Test.{byTest}
 use Rattle.frames.specs.Promise.{Lent, FrameAnswer, numbered, reported}
 use Rattle.frames.specs.declared.answer.Advance.{Advance}
 use Rattle.frames.specs.declared.answer.Advance.the-variants.{P, D, T, M, H, F, Refused}
-use Rattle.lane.specs.Linked.{number, filling, present, report, presentOf, reportOf, kindNumber, numberOf, countOf, bytesOf, kindOf, blockOf, replyOf, Linked}
+use Rattle.lane.specs.Linked.{number, filling, present, foretelling, report, presentOf, foretoldOf, reportOf, kindNumber, numberOf, countOf, advancesOf, bytesOf, kindOf, blockOf, replyOf, Linked}
+use Rattle.lane.specs.declared.answer.Foretold.{Foretold}
 use Rattle.lane.specs.declared.answer.Present.{Present}
 use Rattle.lane.specs.declared.answer.Report.{Report}
-use Rattle.pages.specs.Promise.{Call, start, key, read, write, rescind, snapshot, pageOut, advance, filled, answered, countedAs, Kept}
+use Rattle.pages.specs.Promise.{Call, start, key, read, write, rescind, snapshot, pageOut, advance, forecast, filled, answered, countedAs, foretoldAs, Kept}
 use Rattle.pages.specs.declared.answer.Count.{Count}
 use Rattle.pages.specs.declared.answer.Count.the-variants as Counts
+use Rattle.pages.specs.declared.answer.Forecast.{Forecast}
+use Rattle.pages.specs.declared.answer.Forecast.the-variants as Forecasts
 
 -- ---- each kind of answer
 
@@ -26,6 +29,11 @@ as-present : (c : Count) → present (presentOf c .refusal) (presentOf c .count)
 unfolding countedAs presentOf numberOf countOf
 as-present (Counts.Present n) = refl
 as-present (Counts.Refused n) = refl
+
+as-foretold : (f : Forecast) → foretelling (foretoldOf f .refusal) (foretoldOf f .advances) ≡ foretelling (numberOf (foretoldAs f)) (advancesOf (foretoldAs f))
+unfolding foretoldAs foretoldOf numberOf advancesOf
+as-foretold (Forecasts.Advances n) = refl
+as-foretold (Forecasts.Refused n) = refl
 
 as-report : (a : Advance) → report (reportOf a .kind) (reportOf a .refusal) (reportOf a .block) ≡ replyOf advance (answered (reported a))
 unfolding replyOf reported answered reportOf kindOf kindNumber numberOf blockOf
@@ -67,6 +75,10 @@ linked-read o k x l l′ n b p = record { answer = _; in-numbers = refl; kept = 
 pub linked-key : (o : ℕ) (l l′ : Lent) (a : Count) (r : Present) → r ≡ presentOf a → Kept (key o) l (countedAs a) l′ → Linked (key o) l (present (r .refusal) (r .count)) l′
 unfolding replyOf
 linked-key o l l′ a r e k = record { answer = _; in-numbers = ap (λ (x : Present). present (x .refusal) (x .count)) e ∙ as-present a; kept = k }
+
+pub linked-forecast : (l l′ : Lent) (f : Forecast) (r : Foretold) → r ≡ foretoldOf f → Kept forecast l (foretoldAs f) l′ → Linked forecast l (foretelling (r .refusal) (r .advances)) l′
+unfolding replyOf
+linked-forecast l l′ f r e k = record { answer = _; in-numbers = ap (λ (x : Foretold). foretelling (x .refusal) (x .advances)) e ∙ as-foretold f; kept = k }
 
 -- of a call that reports a block
 linked-report : (c : Call) (l l′ : Lent) (a : Advance) (r : Report) → replyOf c (answered (reported a)) ≡ replyOf advance (answered (reported a)) → r ≡ reportOf a

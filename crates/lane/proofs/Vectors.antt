@@ -4,11 +4,13 @@
 use Prim.Native.Nat.{ℕ}
 use mathlib.Core.Path.{_≡_, refl}
 use Rattle.frames.specs.declared.answer.Advance.the-variants.{P, D, T, M, H, F, Refused}
-use Rattle.lane.specs.Linked.{present, report, presentOf, reportOf, kindNumber, numberOf, countOf, kindOf, blockOf, replyOf}
+use Rattle.lane.specs.Linked.{present, foretelling, report, presentOf, foretoldOf, reportOf, kindNumber, numberOf, countOf, advancesOf, kindOf, blockOf, replyOf}
+use Rattle.lane.specs.declared.answer.Foretold.{Foretold}
 use Rattle.lane.specs.declared.answer.Present.{Present}
 use Rattle.lane.specs.declared.answer.Report.{Report}
-use Rattle.pages.specs.Promise.{key, pageOut, advance, refused, counted, wrote}
+use Rattle.pages.specs.Promise.{key, pageOut, advance, forecast, refused, counted, wrote, foretold}
 use Rattle.pages.specs.declared.answer.Count.the-variants as Counts
+use Rattle.pages.specs.declared.answer.Forecast.the-variants as Forecasts
 use Rattle.recovery.specs.Step.{page, header, flush}
 
 abbrev reported : (kind refusal block : ℕ) → Report
@@ -17,7 +19,10 @@ reported k r b = record { kind = k; refusal = r; block = b }
 abbrev told : (refusal count : ℕ) → Present
 told r c = record { refusal = r; count = c }
 
--- the structs: each kind with block 9, F with block 0, a refusal; a count and a refused key
+abbrev ahead : (refusal advances : ℕ) → Foretold
+ahead r n = record { refusal = r; advances = n }
+
+-- the structs: each kind with block 9, F with block 0, a refusal; a count and a refused key; a forecast and a refused one
 pub report-fields : (reportOf (P 9) ≡ reported 1 0 9) × (reportOf (D 9) ≡ reported 2 0 9) × (reportOf (T 9) ≡ reported 3 0 9)
     × (reportOf (M 9) ≡ reported 4 0 9) × (reportOf (H 0) ≡ reported 5 0 0) × (reportOf (F 0) ≡ reported 6 0 0)
     × (reportOf (Refused 20) ≡ reported 0 20 0)
@@ -28,9 +33,14 @@ pub present-fields : (presentOf (Counts.Present 7) ≡ told 0 7) × (presentOf (
 unfolding presentOf
 present-fields = (refl, refl)
 
+pub foretold-fields : (foretoldOf (Forecasts.Advances 8) ≡ ahead 0 8) × (foretoldOf (Forecasts.Refused 3) ≡ ahead 3 0)
+unfolding foretoldOf
+foretold-fields = (refl, refl)
+
 -- the replies of the two demands
 pub replies-told : (replyOf pageOut (wrote page 9) ≡ report 1 0 9) × (replyOf advance (wrote header 0) ≡ report 5 0 0)
     × (replyOf advance (wrote flush 0) ≡ report 6 0 0) × (replyOf advance (refused 20) ≡ report 0 20 0)
     × (replyOf (key 100) (counted 7) ≡ present 0 7) × (replyOf (key 100) (refused 9) ≡ present 9 0)
-unfolding replyOf kindOf kindNumber numberOf countOf blockOf
-replies-told = (refl, refl, refl, refl, refl, refl)
+    × (replyOf forecast (foretold 8) ≡ foretelling 0 8) × (replyOf forecast (refused 3) ≡ foretelling 3 0)
+unfolding replyOf kindOf kindNumber numberOf countOf advancesOf blockOf
+replies-told = (refl, refl, refl, refl, refl, refl, refl, refl)

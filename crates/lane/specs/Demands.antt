@@ -1,21 +1,25 @@
--- DEMANDS 2 AND 3 of the linked calls, as `pages` has them of the by-value ones, in what a lane program gets: numbers and buffers. That an exported function is the
--- linked call of its name is said by its `ensures` (`src/call.rt`), which belong to these statements.
+-- DEMANDS 2 AND 3 of the linked calls, and that their forecast holds, as `pages` has them of the by-value ones, in what a
+-- lane program gets: numbers and buffers. That an exported function is the linked call of its name is said by its
+-- `ensures` (`src/call.rt`), which belong to these statements.
 -- Assumes nothing.
-use Prim.Native.Nat.{ℕ}
-use lib.ListN.{length}
+use Prim.Native.Nat.{ℕ, _+_, _-_, _≤_, _<_}
+use lib.Dec.{eqb}
+use lib.ListN.{length, getD}
 use mathlib.Core.Bool.{true, false, _||_}
 use mathlib.Core.List.{List, [], _∷_}
+use mathlib.Core.Logic.{_≢_}
 use mathlib.Core.Option.{none, some}
 use mathlib.Core.Path.{_≡_}
 use Rattle.card.specs.Block.{whole}
 use Rattle.frames.specs.Promise.{Lent, lent, numbered}
-use Rattle.lane.specs.Linked.{Reply, number, filling, present, replyOf, Linked}
+use Rattle.lane.specs.Linked.{Reply, number, filling, present, foretelling, report, replyOf, Linked}
 use Rattle.pages.specs.Book.{Event, called, cutIn, cut, isFlush, formatBook, bookAfter}
 use Rattle.pages.specs.Demand2.{plainAnswers, plainCard, NoStart}
 use Rattle.pages.specs.Demand3.{World, lentTo, driveAfter, Step, OfRanges}
+use Rattle.pages.specs.ForecastHolds.{advances}
 use Rattle.pages.specs.Page.{Page}
 use Rattle.pages.specs.Plain.{plainOf}
-use Rattle.pages.specs.Promise.{Call, start, key, read, Answer, answered, outcome, FormatKept}
+use Rattle.pages.specs.Promise.{Call, start, key, read, write, rescind, snapshot, pageOut, advance, forecast, Answer, answered, outcome, FormatKept}
 use Rattle.record.specs.Meaning.{zeroStore}
 use Rattle.recovery.specs.Step.{startState}
 use Rattle.recovery.specs.Write.{Drive, seen, Adversary, Left, Spoilt}
@@ -72,3 +76,44 @@ LinkedDemand3 = LinkedRecovers Left
 
 abbrev pub LinkedDemand3Spoilt : Type 0
 LinkedDemand3Spoilt = LinkedRecovers Spoilt
+
+-- ---- the forecast holds: where it replies n, each of the next n advances is done, the last but one is H and no other
+-- one, the last is F; what stands among them leaves it
+
+-- a snapshot or a page-out among them is refused
+abbrev pub refusalOf : Reply → ℕ
+refusalOf (number n) = n
+refusalOf (filling r b) = r
+refusalOf (present r c) = r
+refusalOf (foretelling r n) = r
+refusalOf (report k r b) = r
+
+abbrev pub LinkedMayStand : Call → Reply → Type 0
+LinkedMayStand (start m) r = ⊥
+LinkedMayStand (key o) r = Unit {0}
+LinkedMayStand (read o n x) r = Unit {0}
+LinkedMayStand (write o n at new) r = Unit {0}
+LinkedMayStand (rescind o n) r = Unit {0}
+LinkedMayStand snapshot r = refusalOf r ≢ 0
+LinkedMayStand pageOut r = refusalOf r ≢ 0
+LinkedMayStand advance r = Unit {0}
+LinkedMayStand forecast r = Unit {0}
+
+abbrev pub LinkedUndisturbed : List Call → List Reply → Type 0
+LinkedUndisturbed [] rs = Unit {0}
+LinkedUndisturbed (c ∷ cs) [] = Unit {0}
+LinkedUndisturbed (c ∷ cs) (r ∷ rs) = LinkedMayStand c r × LinkedUndisturbed cs rs
+
+-- the report of advance i of n, counted from 0: refusal 0; kind 5 if it is the last but one, and only then; kind 6 if it
+-- is the last
+abbrev pub LinkedForeseen : ℕ → ℕ → Reply → Type 0
+LinkedForeseen n i r = (kind : ℕ) × (block : ℕ) × (r ≡ report kind 0 block) × (eqb kind 5 ≡ eqb (i + 2) n) × (i + 1 ≡ n → kind ≡ 6)
+
+abbrev pub LinkedForecastHolds : Type 0
+LinkedForecastHolds = (m card : List ℕ) (l₀ : Lent) → Linked (start m) (lent zeroStore m card) (number 0) l₀
+    → (cs : List Call) → NoStart cs → (rs₁ : List Reply) (l : Lent) → LinkedCalls cs l₀ rs₁ l
+    → (n : ℕ) (l₁ : Lent) → Linked forecast l (foretelling 0 n) l₁
+    → ((r : ℕ) (l′ : Lent) → Linked snapshot l₁ (number r) l′ → (2 ≤ n → r ≡ 16) × (r ≡ 16 → 2 ≤ n))
+    × ((ds : List Call) (rs₂ : List Reply) (l₂ : Lent) → LinkedCalls ds l₁ rs₂ l₂ → LinkedUndisturbed ds rs₂
+    → ((i : ℕ) → i < n → i < length (advances ds rs₂) → LinkedForeseen n i (getD (advances ds rs₂) i (number 0)))
+    × (length (advances ds rs₂) ≤ n → (r k : ℕ) (l′ : Lent) → Linked forecast l₂ (foretelling r k) l′ → (r ≡ 0) × (k ≡ n - length (advances ds rs₂))))

@@ -1,3 +1,3 @@
--- What the linked calls promise, and the two demands of them.
+-- What the linked calls promise, the two demands of them, and that their forecast holds.
 pub mod Linked
 pub mod Demands

@@ -1,13 +1,16 @@
-// The calls over a lent record: each calls the by-value core, and puts the record back. Key and read change nothing, so
-// that there is none to put back: C gets them with a const record. They are lent card and memory for one lifetime, as
-// their cores are.
-// Key, page-out and advance answer with an enum, and with numbers for C.
+// The calls over a lent record: each calls the by-value core, and puts the record back. Key, read and forecast change
+// nothing, so that there is none to put back: C gets them with a const record. Key and read are lent card and memory for
+// one lifetime, as their cores are.
+// Key, page-out, advance and forecast answer with an enum, and with numbers for C.
+use super::answer::Foretold;
 use super::answer::Present;
 use super::answer::Report;
 use super::number;
 use frames::answer::Advance;
 use pages::advance;
 use pages::answer::Count;
+use pages::answer::Forecast;
+use pages::forecast;
 use pages::format;
 use pages::key;
 use pages::page_out;
@@ -19,9 +22,9 @@ use record::store::Store;
 ghost use mathlib.Core.Path.{_≡_};
 ghost use Rattle.frames.specs.Promise.{lent, numbered, reported};
 ghost use Rattle.pages.specs.Promise as call;
-ghost use Rattle.pages.specs.Promise.{answered, countedAs, Kept, FormatKept};
+ghost use Rattle.pages.specs.Promise.{answered, countedAs, foretoldAs, Kept, FormatKept};
 ghost use Rattle.record.specs.Meaning.{zeroStore};
-ghost use Rattle.lane.specs.Linked.{version, number, filling, present, report, Linked};
+ghost use Rattle.lane.specs.Linked.{version, number, filling, present, foretelling, report, Linked};
 
 // The version of this interface: the record's form, the answers and the calls. A program compares it with the one of
 // the header that it was compiled with.
@@ -137,6 +140,14 @@ pub extern "C" fn lane_advance(s: &mut Store, card: &mut [u8], memory: &[u8]) ->
     d.answer
 }
 
+#[no_mangle]
+pub extern "C" fn lane_forecast(s: &mut Store, card: &[u8], memory: &[u8]) -> Foretold
+    ensures { λ r. ⌜ Linked call.forecast (lent (now (s .entry)) (now (memory .entry)) (now (card .entry))) (foretelling (r .refusal) (r .advances)) (lent (now (s .exit)) (now (memory .entry)) (now (card .entry)))
+        × (now (s .exit) ≡ now (s .entry)) ⌝ }
+{
+    number::forecast(*s, card, memory)
+}
+
 pub fn key<'s, 'a>(s: &'s mut Store, card: &'a [u8], memory: &'a [u8], oid: u32) -> Count
     ensures { λ r. ⌜ Kept (call.key oid) (lent (now (s .entry)) (now (memory .entry)) (now (card .entry))) (countedAs r) (lent (now (s .exit)) (now (memory .entry)) (now (card .entry))) ⌝ }
 {
@@ -157,4 +168,10 @@ pub fn advance(s: &mut Store, card: &mut [u8], memory: &[u8]) -> Advance
     let d = advance::advance(*s, card, memory);
     *s = d.store;
     d.answer
+}
+
+pub fn forecast(s: &mut Store, card: &[u8], memory: &[u8]) -> Forecast
+    ensures { λ r. ⌜ Kept call.forecast (lent (now (s .entry)) (now (memory .entry)) (now (card .entry))) (foretoldAs r) (lent (now (s .exit)) (now (memory .entry)) (now (card .entry))) ⌝ }
+{
+    forecast::forecast(*s, card, memory)
 }

@@ -1,13 +1,14 @@
 // The calls with the record by value: each keeps the record in a local, lends it to a call over a lent record, and hands it back beside the answer.
 // A program that calls these is covered; one that lends the record itself is not.
 use super::answer::Counted;
+use super::answer::Forecasted;
 use super::call;
 use frames::answer::Advanced;
 use frames::answer::Done;
 use record::store::Store;
 ghost use Rattle.frames.specs.Promise.{lent, reported};
 ghost use Rattle.pages.specs.Promise as call;
-ghost use Rattle.pages.specs.Promise.{answered, countedAs, Kept};
+ghost use Rattle.pages.specs.Promise.{answered, countedAs, foretoldAs, Kept};
 ghost use Rattle.record.specs.Meaning.{zeroStore};
 ghost use Rattle.lane.specs.Linked.{number, filling, Linked};
 
@@ -111,6 +112,17 @@ pub fn advance(s: Store, card: &mut [u8], memory: &[u8]) -> Advanced
     let mut t = s;
     let c = call::advance(&mut t, card, memory);
     Advanced {
+        answer: c,
+        store: t,
+    }
+}
+
+pub fn forecast(s: Store, card: &[u8], memory: &[u8]) -> Forecasted
+    ensures { λ r. ⌜ Kept call.forecast (lent s (now (memory .entry)) (now (card .entry))) (foretoldAs (r .answer)) (lent (r .store) (now (memory .entry)) (now (card .entry))) ⌝ }
+{
+    let mut t = s;
+    let c = call::forecast(&mut t, card, memory);
+    Forecasted {
         answer: c,
         store: t,
     }

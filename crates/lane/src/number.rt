@@ -1,4 +1,5 @@
 // By-value calls in the form that a wrapper calls: answers that are enums as numbers, and start with the record that it replaces.
+use super::answer::Foretold;
 use super::answer::Present;
 use super::answer::Report;
 use super::answer::Reported;
@@ -6,15 +7,17 @@ use frames::answer::Advance;
 use frames::answer::Done;
 use pages::advance;
 use pages::answer::Count;
+use pages::answer::Forecast;
+use pages::forecast;
 use pages::key;
 use pages::page_out;
 use pages::start;
 use record::store::Store;
 ghost use mathlib.Core.Path.{_≡_};
 ghost use Rattle.frames.specs.Promise.{lent, numbered};
-ghost use Rattle.pages.specs.Promise.{start, key, pageOut, advance, answered, Kept};
+ghost use Rattle.pages.specs.Promise.{start, key, pageOut, advance, forecast, answered, Kept};
 ghost use Rattle.record.specs.Meaning.{zeroStore};
-ghost use Rattle.lane.specs.Linked.{present, report, presentOf, reportOf, Linked};
+ghost use Rattle.lane.specs.Linked.{present, foretelling, report, presentOf, foretoldOf, reportOf, Linked};
 
 fn present(c: Count) -> Present
     ensures { λ r. ⌜ r ≡ presentOf c ⌝ }
@@ -27,6 +30,21 @@ fn present(c: Count) -> Present
         Count::Refused(n) => Present {
             refusal: n,
             count: 0,
+        },
+    }
+}
+
+fn foretold(f: Forecast) -> Foretold
+    ensures { λ r. ⌜ r ≡ foretoldOf f ⌝ }
+{
+    match f {
+        Forecast::Advances(n) => Foretold {
+            refusal: 0,
+            advances: n,
+        },
+        Forecast::Refused(n) => Foretold {
+            refusal: n,
+            advances: 0,
         },
     }
 }
@@ -102,6 +120,13 @@ pub fn advance(s: Store, card: &mut [u8], memory: &[u8]) -> Reported
         answer: report(a),
         store: t,
     }
+}
+
+pub fn forecast(s: Store, card: &[u8], memory: &[u8]) -> Foretold
+    ensures { λ r. ⌜ Linked forecast (lent s (now (memory .entry)) (now (card .entry))) (foretelling (r .refusal) (r .advances)) (lent s (now (memory .entry)) (now (card .entry))) ⌝ }
+{
+    let f = forecast::forecast(s, card, memory);
+    foretold(f)
 }
 
 // The record that is handed in is not read.

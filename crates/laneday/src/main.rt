@@ -6,6 +6,7 @@ use lane::call;
 use lane::lend;
 use libc::STDOUT_FILENO;
 use pages::answer::Count;
+use pages::answer::Forecast;
 use record::store;
 use record::store::Store;
 
@@ -122,6 +123,18 @@ fn show<'a>(s: Store, card: &'a [u8], memory: &'a [u8], oid: u32) -> Store {
     }
 }
 
+// Prints how many advances are left until what is marked is safe.
+fn forecast(s: Store, card: &[u8], memory: &[u8]) -> Store {
+    let r = lend::forecast(s, card, memory);
+    let t = r.store;
+    let f = r.answer;
+    match f {
+        Forecast::Advances(n) => print_line(b"forecast", n as u64),
+        Forecast::Refused(n) => print_line(b"refused", n as u64),
+    }
+    t
+}
+
 // The flush that is due after a start.
 fn flush(s: Store, card: &mut [u8], memory: &[u8]) -> Store {
     let r = lend::advance(s, card, memory);
@@ -140,7 +153,8 @@ fn passages(s: Store, card: &[u8], memory: &mut [u8]) -> Store {
 fn commit(s: Store, card: &mut [u8], memory: &[u8]) -> Store {
     let t = page_out(s, card, memory);
     let u = snapshot(t, card, memory);
-    advance_all(u, card, memory)
+    let v = forecast(u, card, memory);
+    advance_all(v, card, memory)
 }
 
 fn morning(s: Store, card: &mut [u8], memory: &mut [u8]) -> Store {

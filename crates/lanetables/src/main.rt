@@ -1,5 +1,6 @@
 // What document 01's lane tables leave to a program, cards of two ranges, a refusal of each number with the call that
-// gave it, what each limit lets through, and document 02's case of an empty page: a line each.
+// gave it, what each limit lets through, document 02's case of an empty page, and the forecast along the whole run: a
+// line each.
 mod empty;
 mod item;
 mod refusal;
@@ -62,6 +63,16 @@ fn empty_page() {
     report(empty::next(9));
     line(b"empty page at home", empty::home());
     line(b"empty page read", empty::restarted());
+}
+
+// After the start; from the snapshot on, before which the first F is not made; and until M.
+fn forecasts() {
+    line(b"forecast after start", whole_run::first_forecast());
+    io::write_all(STDOUT_FILENO, b"forecast from snapshot");
+    for count in 0..10 {
+        print(whole_run::forecast(count));
+    }
+    end();
 }
 
 // Numbers 1 to 8: what is lent, and the card.
@@ -162,4 +173,5 @@ fn main() {
     refused_by_state();
     limits();
     empty_page();
+    forecasts();
 }

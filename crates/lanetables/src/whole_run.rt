@@ -1,4 +1,5 @@
 // The whole run of document 01: a card of 11 blocks with an area of 8 and one page, OID 100.
+use pages::answer::Forecast;
 use record::store::Store;
 
 // A card with one range from OID 100 on, formatted and started.
@@ -32,4 +33,28 @@ pub fn run(card: &mut [u8], memory: &mut [u8], count: u32) -> Store {
     let s = begin(card, memory, 8, 1);
     let t = write_and_mark(s, card, memory);
     advances(t, card, memory, count)
+}
+
+// A forecast; where it is refused, more advances than any card takes.
+fn foretold(f: Forecast) -> u32 {
+    match f {
+        Forecast::Advances(n) => n,
+        Forecast::Refused(_) => 4294967295,
+    }
+}
+
+// The forecast after the start.
+pub fn first_forecast() -> u32 {
+    let mut card = [0u8; 5632];
+    let memory = [0u8; 2048];
+    let s = begin(&mut card, &memory, 8, 1);
+    foretold(pages::forecast::forecast(s, &card, &memory))
+}
+
+// The forecast behind so many advances.
+pub fn forecast(count: u32) -> u32 {
+    let mut card = [0u8; 5632];
+    let mut memory = [0u8; 2048];
+    let s = run(&mut card, &mut memory, count);
+    foretold(pages::forecast::forecast(s, &card, &memory))
 }

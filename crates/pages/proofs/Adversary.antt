@@ -15,7 +15,7 @@ use Rattle.pages.proofs.AnswerLaws.{block-done, block-none, kept-done, 
 use Rattle.pages.proofs.RunLaws.{or-false}
 use Rattle.pages.specs.Book.{called, cutIn, cut, isFlush}
 use Rattle.pages.specs.Demand3.{World, lentTo, driveAfter, Step, calls, cutWithin, cutBetween}
-use Rattle.pages.specs.Promise.{Call, start, Answer, refused, done, counted, filled, wrote, asks, frameCall, doneAnswer, refusal, outcome, Kept}
+use Rattle.pages.specs.Promise.{Call, start, Answer, refused, done, counted, filled, wrote, foretold, asks, frameCall, doneAnswer, refusal, outcome, Kept}
 use Rattle.record.specs.Meaning.{zeroStore}
 use Rattle.recovery.proofs.Adversary.{either-way}
 use Rattle.recovery.specs.Step.{page, directory, trailer, migration, header, flush}
@@ -46,6 +46,7 @@ not-flush (wrote trailer n) h = refl
 not-flush (wrote migration n) h = refl
 not-flush (wrote header n) h = refl
 not-flush (wrote flush n) h = absurd (h n refl)
+not-flush (foretold n) h = refl
 
 after : Lent → Drive → Bool → World
 after l v t = record { drive = v; held = some l; complete = t }

@@ -18,7 +18,7 @@ use Rattle.card.specs.declared.range.Lookup.the-variants.{Located, Outside}
 use Rattle.frames.proofs.KeepLaws.{outcome-done, outcome-refused, keeps-refused, keeps-done, done-tells, refused-tells, back-card, back-memory}
 use Rattle.frames.proofs.ReadyLaws.{common-passed, common-both}
 use Rattle.frames.specs.Promise.{Lent, meaningOf, common, FrameAnswer, FrameKept}
-use Rattle.pages.specs.Promise.{Call, start, key, read, write, rescind, snapshot, pageOut, advance, Answer, answered, addressOf, atPlace, presentCount, writeChanges, rescindChanges, placed, asks, frameCall, doneAnswer, refusal, outcome, Kept}
+use Rattle.pages.specs.Promise.{Call, start, key, read, write, rescind, snapshot, pageOut, advance, forecast, Answer, answered, addressOf, atPlace, presentCount, writeChanges, rescindChanges, placed, asks, frameCall, doneAnswer, refusal, outcome, Kept}
 use Rattle.record.specs.Holds.{holdsTogether}
 use Rattle.recovery.specs.Contents.{FrameBytes}
 use Rattle.recovery.specs.Questions.{heldAsks, newPlaces, roomAsks}
@@ -39,6 +39,7 @@ Later (rescind o n) = Unit {0}
 Later snapshot = Unit {0}
 Later pageOut = Unit {0}
 Later advance = Unit {0}
+Later forecast = Unit {0}
 
 -- what it is asked after 1 to 3
 unfoldable pub ownAsks : Call → Lent → List Question
@@ -54,6 +55,7 @@ asks-are (rescind o n) l k = refl
 asks-are snapshot l k = refl
 asks-are pageOut l k = refl
 asks-are advance l k = refl
+asks-are forecast l k = refl
 
 pub asked-both : (c : Call) (l : Lent) → Later c → firstNo (asks c l) ≡ 0 → (firstNo (common l) ≡ 0) × (firstNo (ownAsks c l) ≡ 0)
 asked-both c l k e = common-both (l .store) (length (l .memory)) (length (l .card)) (ownAsks c l) (sym (ap firstNo (asks-are c l k)) ∙ e)
@@ -126,6 +128,7 @@ module _ (l : Lent) where
   frames-asked snapshot e = unfold asks frames.asks in e
   frames-asked pageOut e = unfold asks frames.asks in e
   frames-asked advance e = unfold asks frames.asks in e
+  frames-asked forecast e = change-asked [] (asked-both forecast l tt e .0) (change-none (meaningOf l) .0)
 
 -- ---- a promise that is kept: done, or refused
 

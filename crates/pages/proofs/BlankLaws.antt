@@ -16,7 +16,7 @@ use Rattle.recovery.specs.Questions.{newPlaces, roomAsks, advanceAsks}
 use Rattle.recovery.specs.Sound.{Rises}
 use Rattle.recovery.specs.State.{Generation, State, places, entryCount, size, directoryOf, empty}
 use Rattle.recovery.specs.Step.{pendingTo, currentTo, queued, changeFrame, changeFrames, afterChange, afterSnapshot, Kind, page, directory, trailer, migration, header, flush, outOf, afterKind, migrationDue, advanceDue, migrating, afterPageOut}
-use Rattle.recovery.specs.Sums.{leading, passedTo}
+use Rattle.recovery.specs.Sums.{leading, passedTo, movesLeft, commitSum}
 
 -- changed frames by their numbers
 unfoldable pub blankFrames : List FrameBytes → List FrameBytes
@@ -100,6 +100,10 @@ module _ (s : State) where
   pub blank-passed : (over : ℕ → Bool) → passedTo over (blank s) ≡ passedTo over s
   unfolding passedTo blank
   blank-passed over = ap (λ (t : Bool). s .migrated + cond t (leading over (drop (s .migrated) (s .committed .entries))) 0) blank-migrating
+
+  pub blank-sum : (over : ℕ → Bool) → commitSum over (blank s) ≡ commitSum over s
+  unfolding commitSum movesLeft blank blankGeneration
+  blank-sum over = rw (long-blanks (length (s .pending .waiting)))
 
   pub blank-advanceAsks : advanceAsks (blank s) ≡ advanceAsks s
   unfolding advanceAsks

@@ -3,7 +3,7 @@
 use Prim.Native.Nat.{ℕ}
 use mathlib.Core.Path.{_≡_, refl}
 use Rattle.pages.specs.Book.{Book, called, isDone, isHeader, isFlush, told}
-use Rattle.pages.specs.Promise.{Call, start, key, read, write, rescind, snapshot, pageOut, advance, refusal}
+use Rattle.pages.specs.Promise.{Call, start, key, read, write, rescind, snapshot, pageOut, advance, forecast, refusal}
 
 pub told-refused : (c : Call) (n : ℕ) (b : Book) → told (called c (refusal c n)) b ≡ b
 unfolding told refusal isDone isHeader isFlush
@@ -15,3 +15,4 @@ told-refused (rescind o k) n b = refl
 told-refused snapshot n b = refl
 told-refused pageOut n b = refl
 told-refused advance n b = refl
+told-refused forecast n b = refl

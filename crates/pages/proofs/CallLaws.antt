@@ -15,18 +15,20 @@ use Rattle.card.specs.Pot.{countAt, flagsAt, putFlags, isZero, clearZero}
 use Rattle.card.specs.Question.{Question, firstNo}
 use Rattle.card.specs.declared.range.Address.{Address}
 use Rattle.frames.proofs.KeepLaws.{numbered-no, numbered-done}
-use Rattle.frames.proofs.ReadyLaws.{common-passed, common-refused}
-use Rattle.frames.specs.Parts.{framesWith, ChangeKept}
+use Rattle.frames.proofs.ReadyLaws.{common-passed, common-refused, ready}
+use Rattle.frames.specs.Parts.{framesWith, ChangeKept, Foretells}
 use Rattle.frames.specs.Promise.{Lent, lent, meaningOf, common, FrameAnswer, FrameKept, numbered}
 use Rattle.frames.specs.declared.answer.Done.{Done}
 use Rattle.pages.proofs.AnswerLaws.{change-none, keeps-no, keeps-same, lifted}
 use Rattle.pages.proofs.NamedLaws.{Found, found-together, one-frame, two-frames, Stops, rest-asked, keyAsks, Keyed, keyed-asks}
 use Rattle.pages.specs.Page.{pageBytes, writeFrames, rescindPot, rescindFrames}
-use Rattle.pages.specs.Promise.{Call, start, key, read, write, rescind, snapshot, pageOut, advance, refused, done, counted, filled, answered, countedAs, atPlace, presentFrames, presentCount, writeChanges, rescindChanges, asks, frameCall, doneAnswer, refusal, Kept, passedOf}
+use Rattle.pages.specs.Promise.{Call, start, key, read, write, rescind, snapshot, pageOut, advance, forecast, refused, done, counted, filled, answered, countedAs, foretoldAs, atPlace, presentFrames, presentCount, writeChanges, rescindChanges, asks, frameCall, doneAnswer, refusal, Kept, over, passedOf}
 use Rattle.pages.specs.declared.answer.Count.the-variants.{Present, Refused}
+use Rattle.pages.specs.declared.answer.Forecast.the-variants as Forecasts
 use Rattle.record.specs.declared.store.Store.{Store}
 use Rattle.recovery.specs.Contents.{FrameBytes}
 use Rattle.recovery.specs.Questions.{roomAsks}
+use Rattle.recovery.specs.Sums as sums
 use Rattle.frames.specs.Promise as frames
 
 -- ---- calls that are the frame layer's
@@ -55,6 +57,18 @@ advance-refused l n e z = keeps-no advance l n (common-refused (l .store) (lengt
 
 pub advance-kept-by : (l l′ : Lent) (a : FrameAnswer) (n : ℕ) → n ≡ passedOf l → FrameKept (frames.advance n) l a l′ → Kept advance l (answered a) l′
 advance-kept-by l l′ a n e k = advance-kept l l′ a (subst (λ (m : ℕ). FrameKept (frames.advance m) l a l′) e k)
+
+-- ---- forecast
+
+pub forecast-refused : (l : Lent) (n : ℕ) → n ≡ firstNo (common l) → n ≢ 0 → Kept forecast l (foretoldAs (Forecasts.Refused n)) l
+unfolding asks frameCall refusal foretoldAs
+forecast-refused l n e z = keeps-no forecast l n (sym e) z
+
+pub forecast-done : (l : Lent) (n : ℕ) → firstNo (common l) ≡ 0 → (moves : ℕ) → (0 < l .store .pending .count → moves ≡ sums.movesLeft (over l) (meaningOf l)) → Foretells (l .store) moves n
+    → Kept forecast l (foretoldAs (Forecasts.Advances n)) l
+unfolding foretoldAs doneAnswer
+forecast-done l n h moves e f = rw (f (over l) (l .memory) e)
+    (keeps-same forecast l (unfold asks in h) (unfold frameCall in refl) (ready (l .store) (length (l .memory)) (length (l .card)) h .together))
 
 -- ---- key
 

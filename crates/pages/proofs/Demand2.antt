@@ -25,7 +25,7 @@ use Rattle.pages.proofs.Represents.{accepted-full}
 use Rattle.pages.specs.Demand2.{plainAnswers, plainCard, NoStart, Calls, finished, next, Demand2}
 use Rattle.pages.specs.Needed.{needed}
 use Rattle.pages.specs.Plain.{Plain, blank, plainOf, plainAsks, PlainOutcome, answers, plainDone, plainDoes}
-use Rattle.pages.specs.Promise.{Call, start, key, read, write, rescind, snapshot, pageOut, advance, Answer, refused, done, atPlace, asks, frameCall, refusal, Kept}
+use Rattle.pages.specs.Promise.{Call, start, key, read, write, rescind, snapshot, pageOut, advance, forecast, Answer, refused, done, atPlace, asks, frameCall, refusal, Kept}
 use Rattle.record.specs.Meaning.{zeroStore}
 use Rattle.recovery.proofs.Follows.{Stored, Follows}
 use Rattle.recovery.proofs.FrameTheorem.{allNeeded, accepted-stored, stored-long}
@@ -35,7 +35,7 @@ use Rattle.recovery.specs.Step.{startState}
 use Rattle.recovery.specs.Write.{BlockWrite, putDown}
 use Rattle.frames.specs.Promise as frames
 
-later : (c : Call) → ((m : List ℕ) → c ≡ start m → ⊥) → Later c
+pub later : (c : Call) → ((m : List ℕ) → c ≡ start m → ⊥) → Later c
 later (start m) h = h m refl
 later (key o) h = tt
 later (read o n x) h = tt
@@ -44,6 +44,7 @@ later (rescind o n) h = tt
 later snapshot h = tt
 later pageOut h = tt
 later advance h = tt
+later forecast h = tt
 
 -- ---- calls after start
 
@@ -59,10 +60,11 @@ module _ (rs : List Range) (blocks area : ℕ) (full : blocks ≡ 1 + area + all
   lent-held snapshot l b k h = (h, refl)
   lent-held pageOut l b k h = (h, refl)
   lent-held advance l b k h = (h, refl)
+  lent-held forecast l b k h = (h, refl)
 
   module _ (c : Call) (k : Later c) (l l′ : Lent) (a : Answer) (p : Kept c l a l′) (t : Plain) (b : InStep rs blocks area full l t) where
     -- it answers and writes as the machine does, and leaves the machine beside it
-    abbrev Same : PlainOutcome → Type 0
+    abbrev pub Same : PlainOutcome → Type 0
     Same d = (a ≡ d .answer) × (l′ .card ≡ putDown (d .write) (l .card)) × InStep rs blocks area full l′ (d .next)
 
     held : LentOk (needed rs area) blocks area rs (frameCall c l) l (t .frames) × (frames.handedBack (frameCall c l) l ≡ l)
@@ -94,7 +96,7 @@ module _ (rs : List Range) (blocks area : ℕ) (full : blocks ≡ 1 + area + all
         let l-is : l′ ≡ l = q .1 ∙ held .1 in
         (q .0, ap (λ (x : Lent). x .card) l-is, rw l-is b)
 
-    one-call : Same (plainDoes c t)
+    pub one-call : Same (plainDoes c t)
     unfolding plainDoes
     one-call = rw (← number-is) (byTest Same (eqb (firstNo (asks c l)) 0) (λ e. done-one (eqb-true _ _ e)) (λ e. refused-one (eqb-false _ _ e)))
       where
@@ -127,13 +129,13 @@ module _ (m card : List ℕ) (l₀ : Lent) (p : Kept (start m) (lent zeroStore m
           let y : _≡_ {A = ℕ} 0 1 = cc in
           absurd (omega arith)
 
-  abbrev blocks : ℕ
+  abbrev pub blocks : ℕ
   blocks = length card / 512
 
-  abbrev area : ℕ
+  abbrev pub area : ℕ
   area = headerOn (blockAt card 0) .area
 
-  abbrev rs : List Range
+  abbrev pub rs : List Range
   rs = headerRanges (headerOn (blockAt card 0))
 
   stored : Stored (needed rs area) blocks area rs card (readFrame (startState m card) card)
@@ -148,7 +150,7 @@ module _ (m card : List ℕ) (l₀ : Lent) (p : Kept (start m) (lent zeroStore m
   unfolding frameCall frames.after
   state-is = p .meaning accepted
 
-  full : blocks ≡ 1 + area + allBlocks rs
+  pub full : blocks ≡ 1 + area + allBlocks rs
   unfolding asks
   full = accepted-full m card accepted
 
@@ -156,7 +158,7 @@ module _ (m card : List ℕ) (l₀ : Lent) (p : Kept (start m) (lent zeroStore m
   unfolding frameCall frames.doneWrite
   card-is = kept-done (start m) was l₀ done p accepted .1
 
-  first-step : InStep rs blocks area full l₀ (plainOf (startState m card) card)
+  pub first-step : InStep rs blocks area full l₀ (plainOf (startState m card) card)
   unfolding plainOf frameCall frames.doneAnswer told
   first-step = record {
     passes = done-common (needed rs area) blocks area rs was book (frames.start m) (refl, stored) tt l₀ _ low asked;

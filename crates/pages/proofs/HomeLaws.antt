@@ -1,4 +1,4 @@
--- What the code asks of a committed entry's frame, and how many entries are passed over.
+-- What the code asks of a committed entry's frame, how many entries are passed over, and how many are to be copied.
 -- Assumes nothing.
 use Prim.Native.Nat.{ℕ, suc, _+_, _≤_, _<_}
 use lib.ListN.{length, getD, drop, length-drop}
@@ -22,13 +22,13 @@ use Rattle.frames.specs.Promise.{lent, meaningOf, LoadsCommitted}
 use Rattle.pages.proofs.NeededLaws.{At, at-tells, pot-needed, page-needed}
 use Rattle.pages.specs.Needed.{pageAt}
 use Rattle.pages.specs.Page.{flagged}
-use Rattle.pages.specs.Promise.{committedFrames, over, passedOf, OverIs, PassedIs}
+use Rattle.pages.specs.Promise.{committedFrames, over, passedOf, OverIs, PassedIs, LeftIs, MovesIs}
 use Rattle.record.proofs.Held.{held, bounds}
 use Rattle.record.specs.Holds.{holdsTogether}
 use Rattle.record.specs.Meaning.{committedOf, phaseOf}
 use Rattle.record.specs.declared.store.Store.{Store}
 use Rattle.recovery.proofs.SumLaws.{passed-within, passed-more, passed-early, passed-owed}
-use Rattle.recovery.specs.Sums.{leading, passedTo}
+use Rattle.recovery.specs.Sums.{leading, movesOf, movesLeft, passedTo}
 
 not-not : (t : Bool) → t ≡ not (not t)
 not-not true = refl
@@ -140,3 +140,39 @@ module _ (s : Store) (card : List ℕ) where
   pub passed-few : (i : ℕ) (memory : List ℕ) → holdsTogether s ≡ true → PassedIs s card i → i ≤ s .committed .count
   unfolding passedOf
   passed-few i memory q p = omega (arith, p memory, passed-within (over (lent s memory card)) (meaningOf (lent s memory card)) (omega (arith, entries-long, held s q .migrated-within)), entries-long)
+
+-- ---- how many are to be copied
+
+pub left-over : (s : Store) (card : List ℕ) (f : ℕ) (r : Bool) → OverIs s card f r → (n : ℕ) → n ≡ cond r 0 1 → LeftIs s card f n
+left-over s card f r o n e = λ memory. e ∙ ap (λ (t : Bool). cond t 0 1) (o memory)
+
+-- n are counted, and the i-th entry on are still to be looked at
+abbrev pub MovesFrom : Store → List ℕ → ℕ → ℕ → Type 0
+MovesFrom s card n i = (memory : List ℕ) → movesLeft (over (lent s memory card)) (meaningOf (lent s memory card)) ≡ n + movesOf (over (lent s memory card)) (drop i (committedOf s .entries))
+
+pub moves-start : (s : Store) (card : List ℕ) → MovesFrom s card 0 (s .migrated)
+unfolding movesLeft
+moves-start s card = λ memory. sym (zero-add (movesOf (over (lent s memory card)) (drop (s .migrated) (committedOf s .entries))))
+
+module _ (s : Store) (card : List ℕ) where
+  module _ (i : ℕ) (more : i < s .committed .count) where
+    counts : (o : ℕ → Bool) → movesOf o (drop i (committedOf s .entries)) ≡ cond (o (getD (s .committed .frames) i 0)) 0 1 + movesOf o (drop (i + 1) (committedOf s .entries))
+    unfolding movesOf
+    counts o = rw (next-is s card i more, frame-is s card i more) (go (o (getD (s .committed .frames) i 0)) (let one : suc i ≡ i + 1 = omega arith in ap (λ (k : ℕ). movesOf o (drop k (committedOf s .entries))) one))
+      where
+        go : (t : Bool) → {x y : ℕ} → x ≡ y → cond t x (suc x) ≡ cond t 0 1 + y
+        go true e = e ∙ omega arith
+        go false e = omega (arith, e)
+
+    pub moves-next : (n f : ℕ) → f ≡ getD (s .committed .frames) i 0 → (r : ℕ) → LeftIs s card f r → MovesFrom s card n i → MovesFrom s card (n + r) (i + 1)
+    moves-next n f e r q p = λ memory.
+        let o = over (lent s memory card) in
+        let r-is : r ≡ cond (o (getD (s .committed .frames) i 0)) 0 1 = q memory ∙ ap (λ (g : ℕ). cond (o g) 0 1) e in
+        omega (arith, p memory, counts o, r-is)
+
+  pub moves-end : (n i : ℕ) → s .committed .count ≤ i → MovesFrom s card n i → MovesIs s card n
+  unfolding movesOf
+  moves-end n i h p = λ memory any. sym (p memory ∙ ap (λ (l : List Entry). n + movesOf (over (lent s memory card)) l) ends ∙ omega arith)
+    where
+      ends : drop i (committedOf s .entries) ≡ []
+      ends = none-long (drop i (committedOf s .entries)) (omega (arith, length-drop i (committedOf s .entries), entries-long s card, h))

@@ -14,13 +14,14 @@ use Rattle.card.specs.Question.{firstNo}
 use Rattle.card.specs.Range.{Range}
 use Rattle.card.specs.Ring.{ringAt}
 use Rattle.card.specs.declared.range.Address.{Address}
-use Rattle.pages.proofs.BlankLaws.{blankFrames, blank-waits, blank-room, blank-rises, blank-due, blank-passed, blank-advanceAsks}
+use Rattle.pages.proofs.BlankLaws.{blankFrames, blank-waits, blank-room, blank-rises, blank-due, blank-passed, blank-sum, blank-advanceAsks}
 use Rattle.pages.specs.Page.{flagged, writeFrames, rescindFrames}
 use Rattle.pages.specs.Plain.{Row, Plain, blankGeneration, blank, touched, writeTouches, rescindTouches, isNone, phaseAfter, ledgerOf, plainAsks, plainOut, plainKind, plainPageOut}
 use Rattle.pages.specs.Promise.{pageOut}
 use Rattle.recovery.proofs.Follows.{Follows, Facts, FactsOf, due-facts}
 use Rattle.recovery.proofs.FollowsStep.{some-waits}
 use Rattle.recovery.proofs.FrameTheorem.{pending-bytes, current-bytes, home-bytes, due-page}
+use Rattle.recovery.proofs.ForecastLaws.{forecast-sum}
 use Rattle.recovery.proofs.SumLaws.{Distinct, one-entry, one-rises, same-room, same-due, same-advance}
 use Rattle.recovery.specs.Book.{FrameBook, markedOr, bookWrote, Needs}
 use Rattle.recovery.specs.Contents.{Contents, FrameBytes}
@@ -29,7 +30,8 @@ use Rattle.recovery.specs.Questions.{roomAsks, pageOutAsks, advanceAsks}
 use Rattle.recovery.specs.Sound.{Rises}
 use Rattle.recovery.specs.State.{Generation, State, entryCount, directoryOf, empty, Phase, writing, flushed, owed}
 use Rattle.recovery.specs.Step.{pendingTo, currentTo, changeFrame, changeFrames, Kind, page, directory, trailer, migration, header, flush, outWrite, outOf, tailBytes, trailerBlockNo, nextMigration, kindWrite, afterFlush, afterKind, advanceDue, migrating, pageOutWrite, afterPageOut, passTo}
-use Rattle.recovery.specs.Sums.{notedIn, remainingWrites, firstOf, roomSums, advanceSums, passedTo}
+use Rattle.recovery.specs.Sums as sums
+use Rattle.recovery.specs.Sums.{notedIn, remainingWrites, firstOf, roomSums, advanceSums, passedTo, commitSum}
 
 -- ---- the frames that a call changes, by their numbers
 
@@ -160,6 +162,9 @@ module _ (s : State) (t : Plain) (ledger-is : t .ledger ≡ blank s) (phase-is :
 
   pub advance-is : (over : ℕ → Bool) → advanceAsks (passTo (passedTo over s) s) ≡ advanceSums over (ledgerOf t)
   advance-is over = rw account-is (sym (ap advanceAsks (blank-past over) ∙ blank-advanceAsks (passTo (passedTo over s) s)) ∙ same-advance over (blank s))
+
+  pub forecast-is : (over : ℕ → Bool) → sums.forecast over s ≡ commitSum over (ledgerOf t)
+  forecast-is over = forecast-sum over s ∙ sym (ap (commitSum over) account-is ∙ blank-sum s over)
 
   pub waiting-is : pageOutAsks s ≡ plainAsks pageOut t
   unfolding pageOutAsks plainAsks blank

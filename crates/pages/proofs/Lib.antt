@@ -16,4 +16,5 @@ pub mod Demand2
 pub mod BookLaws
 pub mod RunLaws
 pub mod Demand3
+pub mod ForecastHolds
 pub mod Adversary

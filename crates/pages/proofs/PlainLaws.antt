@@ -23,7 +23,7 @@ use Rattle.frames.proofs.Run.{told, Asked}
 use Rattle.frames.specs.Promise.{Lent, meaningOf, common, FrameCall, past}
 use Rattle.pages.proofs.AnswerLaws.{Later, ownAsks, found-place, write-passed, rescind-passed}
 use Rattle.pages.proofs.BlankLaws.{blankFrames, blank-change, blank-snapshot, blank-pageOut, blank-kind}
-use Rattle.pages.proofs.LedgerLaws.{write-touches, rescind-touches, touches-apart, nonePending, someChange, change-notes, out-keeps, kind-current, kind-marked, kind-phase, out-phase, room-is, due-is, advance-is, waiting-is, out-is, kind-is, passed-is, past-is}
+use Rattle.pages.proofs.LedgerLaws.{write-touches, rescind-touches, touches-apart, nonePending, someChange, change-notes, out-keeps, kind-current, kind-marked, kind-phase, out-phase, room-is, due-is, advance-is, forecast-is, waiting-is, out-is, kind-is, passed-is, past-is}
 use Rattle.pages.proofs.NeededLaws.{page-at, at-tells, pot-needed, page-needed, needed-same, write-brings, rescind-brings, not-true, not-false}
 use Rattle.pages.proofs.Represents.{write-whole, rescind-whole, write-same, rescind-same, AsTable, Long, changes-long, in-p, updated}
 use Rattle.pages.proofs.Represents as represents
@@ -32,7 +32,7 @@ use Rattle.pages.specs.Book.{update, written, rescinded}
 use Rattle.pages.specs.Needed.{pageAt, needed}
 use Rattle.pages.specs.Page.{Page, flagged, pageBytes, pageOf, writeFrames, rescindFrames}
 use Rattle.pages.specs.Plain.{Row, rowOf, Plain, blank, plainAddress, touched, writeTouches, rescindTouches, isNone, plainAsks, plainKind, PlainOutcome, answers, plainWrite, plainRescind, plainAdvance, plainDone, plainOver, plainPast, ledgerOf}
-use Rattle.pages.specs.Promise.{Call, start, key, read, write, rescind, snapshot, pageOut, advance, Answer, done, counted, filled, wrote, answered, addressOf, atPlace, presentFrames, presentCount, writeChanges, rescindChanges, placed, asks, frameCall, doneAnswer, committedFrames, over, passedOf}
+use Rattle.pages.specs.Promise.{Call, start, key, read, write, rescind, snapshot, pageOut, advance, forecast, Answer, done, counted, filled, wrote, foretold, answered, addressOf, atPlace, presentFrames, presentCount, writeChanges, rescindChanges, placed, asks, frameCall, doneAnswer, committedFrames, over, passedOf}
 use Rattle.recovery.proofs.Follows.{Follows}
 use Rattle.recovery.proofs.FollowsStep.{follows-pass}
 use Rattle.recovery.proofs.FrameTheorem.{reads-present, reads-committed}
@@ -43,6 +43,7 @@ use Rattle.recovery.specs.Questions.{heldAsks, roomAsks, snapshotAsks, given, a
 use Rattle.recovery.specs.Sound.{Rises}
 use Rattle.recovery.specs.State.{entryCount, empty, State}
 use Rattle.recovery.specs.Step.{changeFrames, afterChange, afterSnapshot, Kind, page, directory, trailer, migration, header, flush, kindWrite, kindPut, advanceDue, migrating, nextMigration, passTo}
+use Rattle.recovery.specs.Sums as sums
 use Rattle.recovery.specs.Sums.{roomSums, passedTo, remainingWrites, firstOf, advanceSums}
 use Rattle.recovery.specs.Write.{BlockWrite}
 use Rattle.frames.specs.Promise as frames
@@ -327,6 +328,7 @@ module _ (rs : List Range) (blocks area : ℕ) (full : blocks ≡ 1 + area + all
     same-asks snapshot k = snapshot-asks
     same-asks pageOut k = waiting-is (meaningOf l) t (b .ledger-is) (b .phase-is)
     same-asks advance k = advance-asks
+    same-asks forecast k = refl
 
     due-same : firstOf (remainingWrites (plainOver t) (ledgerOf t)) ≡ advanceDue (meaningOf (past (passedOf l) l))
     unfolding passedOf
@@ -375,3 +377,4 @@ module _ (rs : List Range) (blocks area : ℕ) (full : blocks ≡ 1 + area + all
     }
     agrees advance k own = rw due-same
         (unfold frames.doneAnswer in (advance-agrees (advanceDue (meaningOf (past (passedOf l) l))) refl (unfold advanceAsks in (passed-both 19 (given (advanceDue (meaningOf (past (passedOf l) l)))) [] own .0))))
+    agrees forecast k own = unchanged _ _ (ap foretold (ap (λ (o : ℕ → Bool). sums.forecast o (meaningOf l)) over-is ∙ forecast-is (meaningOf l) t (b .ledger-is) (b .phase-is) (plainOver t)))

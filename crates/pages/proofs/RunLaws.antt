@@ -36,7 +36,7 @@ use Rattle.pages.specs.Book.{Table, Book, Event, called, update, present
 use Rattle.pages.specs.Demand3.{World, lentTo, driveAfter, Step, calls, cutWithin, cutBetween, Run, ended, then}
 use Rattle.pages.specs.Needed.{pageAt, needed}
 use Rattle.pages.specs.Page.{Page, pageBytes, pageOf, writeFrames, rescindFrames, flagged}
-use Rattle.pages.specs.Promise.{Call, start, key, read, write, rescind, snapshot, pageOut, advance, Answer, refused, counted, filled, answered, addressOf, atPlace, presentFrames, presentCount, writeChanges, rescindChanges, asks, frameCall, doneAnswer, refusal, outcome, Kept, committedFrames, over, passedOf}
+use Rattle.pages.specs.Promise.{Call, start, key, read, write, rescind, snapshot, pageOut, advance, forecast, Answer, refused, counted, filled, answered, addressOf, atPlace, presentFrames, presentCount, writeChanges, rescindChanges, asks, frameCall, doneAnswer, refusal, outcome, Kept, committedFrames, over, passedOf}
 use Rattle.recovery.proofs.DriveLaws.{seen-written, left-spoilt}
 use Rattle.recovery.proofs.SumLaws.{passed-over, passed-within, passed-more, passed-owed}
 use Rattle.recovery.specs.Book.{FrameBook, applyChanges, bookChange, bookCut, WholeFrame, Brings}
@@ -78,6 +78,7 @@ drive-done (read u n x) l o v = unfold frames.doneAnswer in (rw (at-place (fille
 drive-done (write u n at new) l o v = unfold frames.doneAnswer isFlush in refl
 drive-done (rescind u n) l o v = unfold frames.doneAnswer isFlush in refl
 drive-done snapshot l o v = unfold frames.doneAnswer isFlush in refl
+drive-done forecast l o v = unfold frames.doneAnswer isFlush in refl
 drive-done pageOut l o v = same-flush (frames.doneAnswer frames.pageOut l) o v
 drive-done advance l o v = same-flush (frames.doneAnswer (frames.advance (passedOf l)) l) o v
 
@@ -92,6 +93,7 @@ refusal-flush (rescind o k) n = refl
 refusal-flush snapshot n = refl
 refusal-flush pageOut n = refl
 refusal-flush advance n = refl
+refusal-flush forecast n = refl
 
 -- the card that is seen after it depends on the card that was seen alone
 seen-after : (a : Answer) (o : Option BlockWrite) (u v : Drive) → seen u ≡ seen v → seen (driveAfter a o u) ≡ seen (driveAfter a o v)
@@ -261,6 +263,7 @@ module _ (m₀ card₀ : List ℕ) (accepted : firstNo (startAsks m₀ card₀) 
         rw (f .place-is) (let n = rescind-news l e low o (f .place) (sym (address-is l e low o) ∙ f .place-is) (rw (f .count-is) (f .few)) in (n .0, (n .1, s .before-is)))
     done-told l snapshot e ok = (tt, (represents-snapshot rs blocks area full book b (s .same), s .before-is))
     done-told l pageOut e ok = (tt, (s .same, s .before-is))
+    done-told l forecast e ok = ((tt, λ f l h k t. t), (s .same, s .before-is))
     done-told l advance e ok = (advance-asked l e (has-frames l (asked-both advance l tt ok .0)), header-news (frames.doneAnswer (frames.advance (passedOf l)) l))
 
     -- ---- steps
@@ -275,6 +278,7 @@ module _ (m₀ card₀ : List ℕ) (accepted : firstNo (startAsks m₀ card₀) 
     lent-is snapshot l e = s .held-is ∙ e
     lent-is pageOut l e = s .held-is ∙ e
     lent-is advance l e = s .held-is ∙ e
+    lent-is forecast l e = s .held-is ∙ e
 
     -- refused: the frames stand as they are, but for a start, which hands out the record of zeros
     abbrev Refused : Lent → Type 0
@@ -303,6 +307,7 @@ module _ (m₀ card₀ : List ℕ) (accepted : firstNo (startAsks m₀ card₀) 
     called-refused snapshot l e z = stands l e
     called-refused pageOut l e z = stands l e
     called-refused advance l e z = stands l e
+    called-refused forecast l e z = stands l e
 
     -- the world after a call
     abbrev after : Call → Answer → Lent → Lent → World

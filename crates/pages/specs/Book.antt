@@ -7,7 +7,7 @@ use mathlib.Core.List.{List, [], _∷_}
 use mathlib.Core.Option.{Option, none, some, Option·getD}
 use Rattle.card.specs.Bytes.{patch, zeros}
 use Rattle.pages.specs.Page.{Page, emptyPage}
-use Rattle.pages.specs.Promise.{Call, start, key, read, write, rescind, snapshot, pageOut, advance, Answer, refused, done, counted, filled, wrote}
+use Rattle.pages.specs.Promise.{Call, start, key, read, write, rescind, snapshot, pageOut, advance, forecast, Answer, refused, done, counted, filled, wrote, foretold}
 use Rattle.recovery.specs.Step.{page, directory, trailer, migration, header, flush}
 
 -- a page for each OID; those of the ranges matter
@@ -69,6 +69,7 @@ isDone done = true
 isDone (counted n) = true
 isDone (filled n x) = eqb n 0
 isDone (wrote k n) = true
+isDone (foretold n) = true
 
 unfoldable pub isHeader : Answer → Bool
 isHeader (refused n) = false
@@ -81,6 +82,7 @@ isHeader (wrote trailer n) = false
 isHeader (wrote migration n) = false
 isHeader (wrote header n) = true
 isHeader (wrote flush n) = false
+isHeader (foretold n) = false
 
 unfoldable pub isFlush : Answer → Bool
 isFlush (refused n) = false
@@ -93,6 +95,7 @@ isFlush (wrote trailer n) = false
 isFlush (wrote migration n) = false
 isFlush (wrote header n) = false
 isFlush (wrote flush n) = true
+isFlush (foretold n) = false
 
 -- the book after an event
 unfoldable pub told : Event → Book → Book
@@ -104,6 +107,7 @@ told (called (rescind o n) a) b = cond (isDone a) (presentTo (update o (rescinde
 told (called snapshot a) b = cond (isDone a) (record { present = b .present; marked = some (b .present); kept = b .kept; before = b .before }) b
 told (called pageOut a) b = b
 told (called advance a) b = cond (isHeader a) (headerReached b) (cond (isFlush a) (flushedBook b) b)
+told (called forecast a) b = b
 told (cutIn c reached) b = cutBook (b .before) reached b
 told (cut reached) b = cutBook (b .before) reached b
 

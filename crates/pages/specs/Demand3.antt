@@ -1,7 +1,7 @@
 -- DEMAND 3, the statement.
 --
 -- Take any card, with any bytes, on which format reports done, and a drive that puts writes down in an order of its
--- own (document 02, #110). Let any list of events follow: the eight calls with any arguments, done or refused by
+-- own (document 02, #110). Let any list of events follow: the nine calls with any arguments, done or refused by
 -- their own promises; a start with any memory, first, after a cut or at any time; a cut between two calls; a cut in a
 -- call. The program flushes where advance reports F. A cut leaves any of the writes since the last flush, the one
 -- being made included, put down in any order, and at most one of them torn, with any bytes; block 0 is found whole.
@@ -26,7 +26,7 @@ use Rattle.card.specs.Range.{rangeIn}
 use Rattle.frames.specs.Promise.{Lent, lent}
 use Rattle.pages.specs.Book.{Event, called, cutIn, cut, isFlush, formatBook, bookAfter}
 use Rattle.pages.specs.Page.{Page}
-use Rattle.pages.specs.Promise.{Call, start, key, read, write, rescind, snapshot, pageOut, advance, Answer, done, counted, filled, outcome, Kept, FormatKept}
+use Rattle.pages.specs.Promise.{Call, start, key, read, write, rescind, snapshot, pageOut, advance, forecast, Answer, done, counted, filled, outcome, Kept, FormatKept}
 use Rattle.record.specs.Meaning.{zeroStore}
 use Rattle.recovery.specs.Write.{BlockWrite, Drive, seen, settled, written, Adversary, Left, Spoilt, Cut, ReachedIs}
 
@@ -47,6 +47,7 @@ lentTo (rescind o n) w = w .held
 lentTo snapshot w = w .held
 lentTo pageOut w = w .held
 lentTo advance w = w .held
+lentTo forecast w = w .held
 
 -- a call's write joins those that are not flushed; where F is reported the program flushes all of them
 abbrev pub driveAfter : Answer → Option BlockWrite → Drive → Drive

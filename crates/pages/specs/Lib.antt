@@ -1,4 +1,4 @@
--- The promise of the calls, the book, and the two demands.
+-- The promise of the calls, the book, the two demands, and what a forecast is worth.
 pub mod Page
 pub mod Needed
 pub mod Promise
@@ -6,3 +6,4 @@ pub mod Book
 pub mod Plain
 pub mod Demand2
 pub mod Demand3
+pub mod ForecastHolds

@@ -3,7 +3,8 @@
 -- of a generation (recovery's Step, here without bytes), the place of an OID (question 9), the frames of a write and
 -- a rescind, the blocks of directory and trailer, which frames of a table are empty pages (Needed), and how many
 -- entries count as passed over (Sums: passedTo). Its answers, its other questions, when a flush is due, which kind is
--- next and whether one is (Sums: remainingWrites), the bytes of pages, and by which table pages are empty are its own.
+-- next and whether one is (Sums: remainingWrites), the forecast (Sums: commitSum), the bytes of pages, and by which
+-- table pages are empty are its own.
 -- Assumes nothing.
 use Prim.Native.Nat.{ℕ, _+_}
 use lib.Dec.{leb, ltb, eqb}
@@ -21,13 +22,13 @@ use Rattle.frames.specs.Promise.{advanced}
 use Rattle.pages.specs.Book.{update, written, rescinded}
 use Rattle.pages.specs.Needed.{needed}
 use Rattle.pages.specs.Page.{Page, flagged, pageOf, writeFrames, rescindFrames}
-use Rattle.pages.specs.Promise.{Call, start, key, read, write, rescind, snapshot, pageOut, advance, Answer, refused, done, counted, filled, wrote, atPlace, placed, refusal}
+use Rattle.pages.specs.Promise.{Call, start, key, read, write, rescind, snapshot, pageOut, advance, forecast, Answer, refused, done, counted, filled, wrote, foretold, atPlace, placed, refusal}
 use Rattle.recovery.specs.Book.{FrameBook, markedOr, bookChange, bookSnapshot, bookWrote}
 use Rattle.recovery.specs.Contents.{Contents, FrameBytes}
 use Rattle.recovery.specs.Directory.{frameOf}
 use Rattle.recovery.specs.State.{Generation, State, readFrame, Phase, writing, flushed, owed, isOwed}
 use Rattle.recovery.specs.Step.{pendingTo, currentTo, phaseTo, afterChange, afterSnapshot, Kind, page, directory, trailer, migration, header, flush, kindPut, tailWrite, trailerBlockNo, nextMigration, afterPageOut, passTo}
-use Rattle.recovery.specs.Sums.{roomSums, advanceSums, remainingWrites, firstOf, passedTo}
+use Rattle.recovery.specs.Sums.{roomSums, advanceSums, remainingWrites, firstOf, passedTo, commitSum}
 use Rattle.recovery.specs.Write.{BlockWrite}
 
 -- a page with bit 0 of its flags: a page of zeros may have it clear, and k of a write depends on it
@@ -118,6 +119,7 @@ plainAsks (rescind o n) t = placed (plainAddress t o) (λ p. ask 10 (eqb (t .row
 plainAsks snapshot t = ask 16 (isNone (t .frames .marked)) ∷ ask 17 (t .changed) ∷ ask 18 (ltb (t .ledger .commit) 4294967295) ∷ []
 plainAsks pageOut t = ask 28 (not (isOwed (t .phase))) ∷ ask 19 (ltb 0 (length (t .ledger .pending .waiting)) || ltb 0 (length (t .ledger .current .waiting))) ∷ []
 plainAsks advance t = advanceSums (plainOver t) (ledgerOf t)
+plainAsks forecast t = []
 
 -- ---- blocks written: a page-out's is the next place, with what was marked or is present of its frame; M's is the
 -- frame's home, with what is kept of it; a flush reports block 0 and writes none
@@ -198,6 +200,7 @@ plainDone pageOut t = record {
   next = record { rows = t .rows; changed = t .changed; phase = t .phase; ledger = afterPageOut (t .ledger); frames = t .frames };
 }
 plainDone advance t = plainAdvance (firstOf (remainingWrites (plainOver t) (ledgerOf t))) (plainPast t)
+plainDone forecast t = answers (foretold (commitSum (plainOver t) (ledgerOf t))) t  -- document 02's sum
 
 unfoldable pub plainDoes : Call → Plain → PlainOutcome
 plainDoes c t = cond (eqb (firstNo (plainAsks c t)) 0) (plainDone c t) (answers (refusal c (firstNo (plainAsks c t))) t)

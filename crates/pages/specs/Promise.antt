@@ -1,4 +1,4 @@
--- The promise of the nine calls: what each is to do with what it is lent, refusals included (document 01, 'The calls' and 'Questions asked').
+-- The promise of the ten calls: what each is to do with what it is lent, refusals included (document 01, 'The calls' and 'Questions asked').
 -- Assumes nothing.
 use Prim.Native.Nat.{ℕ, _+_, _/_, _%_, _<_}
 use lib.Dec.{leb, ltb, eqb}
@@ -19,6 +19,8 @@ use Rattle.pages.specs.Needed.{needed}
 use Rattle.pages.specs.Page.{pageBytes, writeFrames, rescindFrames, formatCard}
 use Rattle.pages.specs.declared.answer.Count.{Count}
 use Rattle.pages.specs.declared.answer.Count.the-variants.{Present, Refused}
+use Rattle.pages.specs.declared.answer.Forecast.{Forecast}
+use Rattle.pages.specs.declared.answer.Forecast.the-variants as Forecasts
 use Rattle.pages.specs.declared.named.Named.{Named}
 use Rattle.record.specs.declared.store.Geometry.{Geometry}
 use Rattle.record.specs.declared.store.Store.{Store}
@@ -26,7 +28,8 @@ use Rattle.recovery.specs.Contents.{Contents, FrameBytes}
 use Rattle.recovery.specs.Questions.{startAsks, roomAsks, snapshotAsks, pageOutAsks, advanceAsks}
 use Rattle.recovery.specs.State.{readFrame, committedFrame}
 use Rattle.recovery.specs.Step.{Kind}
-use Rattle.recovery.specs.Sums.{passedTo}
+use Rattle.recovery.specs.Sums as sums
+use Rattle.recovery.specs.Sums.{movesLeft, passedTo}
 
 -- the calls but format, which stands apart; an OID and a count are a key. Start's memory is the one that it is lent
 pub data Call : Type 0 where
@@ -35,17 +38,18 @@ pub data Call : Type 0 where
   read : (oid count : ℕ) (buffer : List ℕ) → Call
   write : (oid count at : ℕ) (new : List ℕ) → Call
   rescind : (oid count : ℕ) → Call
-  snapshot pageOut advance : Call
+  snapshot pageOut advance forecast : Call
 
--- refused with document 01's number; done; key's count; read's number, 0 where it is done, and its buffer after the call, refused or not; the kind and block that advance or page-out wrote
+-- refused with document 01's number; done; key's count; read's number, 0 where it is done, and its buffer after the call, refused or not; the kind and block that advance or page-out wrote; how many advances forecast tells
 pub data Answer : Type 0 where
   refused : (number : ℕ) → Answer
   done : Answer
   counted : (count : ℕ) → Answer
   filled : (number : ℕ) (buffer : List ℕ) → Answer
   wrote : Kind → (block : ℕ) → Answer
+  foretold : (advances : ℕ) → Answer
 
--- what the code answers: as the frame layer does, or a count
+-- what the code answers: as the frame layer does, a count, or a forecast
 unfoldable pub answered : FrameAnswer → Answer
 answered (frames.refused n) = refused n
 answered frames.done = done
@@ -54,6 +58,10 @@ answered (frames.wrote k n) = wrote k n
 unfoldable pub countedAs : Count → Answer
 countedAs (Present n) = counted n
 countedAs (Refused n) = refused n
+
+unfoldable pub foretoldAs : Forecast → Answer
+foretoldAs (Forecasts.Advances n) = foretold n
+foretoldAs (Forecasts.Refused n) = refused n
 
 -- ---- pages
 
@@ -107,10 +115,11 @@ asks (rescind o n) l = common l ++ placed (addressOf l o) (λ p. ask 10 (eqb (pr
 asks snapshot l = common l ++ snapshotAsks (meaningOf l)
 asks pageOut l = common l ++ pageOutAsks (meaningOf l)
 asks advance l = common l ++ advanceAsks (meaningOf (past (passedOf l) l))
+asks forecast l = common l
 
 -- ---- what a call does
 
--- the frame layer's call that it comes to; key, read and a write of length 0 change no frame
+-- the frame layer's call that it comes to; key, read, forecast and a write of length 0 change no frame
 unfoldable pub frameCall : Call → Lent → FrameCall
 frameCall (start m) l = frames.start m
 frameCall (key o) l = frames.change []
@@ -120,6 +129,7 @@ frameCall (rescind o n) l = frames.change (atPlace [] (addressOf l o) (rescindCh
 frameCall snapshot l = frames.snapshot
 frameCall pageOut l = frames.pageOut
 frameCall advance l = frames.advance (passedOf l)
+frameCall forecast l = frames.change []
 
 -- what it answers where it is done (without a place, 9 has refused it), and where it is refused
 unfoldable pub doneAnswer : Call → Lent → Answer
@@ -131,6 +141,7 @@ doneAnswer (rescind o n) l = done
 doneAnswer snapshot l = done
 doneAnswer pageOut l = answered (frames.doneAnswer frames.pageOut l)
 doneAnswer advance l = answered (frames.doneAnswer (frames.advance (passedOf l)) l)
+doneAnswer forecast l = foretold (sums.forecast (over l) (meaningOf l))
 
 unfoldable pub refusal : Call → ℕ → Answer
 refusal (start m) k = refused k
@@ -141,6 +152,7 @@ refusal (rescind o n) k = refused k
 refusal snapshot k = refused k
 refusal pageOut k = refused k
 refusal advance k = refused k
+refusal forecast k = refused k
 
 -- number, answer, the block that it writes and the state that it leaves
 abbrev pub outcome : Call → Lent → Outcome Answer
@@ -170,12 +182,19 @@ pub record FormatKept (area : ℕ) (numbers before : List ℕ) (a : Answer) (car
 abbrev pub placeIn : Geometry → ℕ → Lookup
 placeIn g oid = locate (rangesOf (g .ranges) (g .count)) (1 + g .area) oid
 
--- whether migration passes over a frame, and how many entries are home or passed over; memory does not matter
+-- whether migration passes over a frame; how many entries are home or passed over; 1 for a frame that is to be copied and
+-- 0 for any other; with a snapshot pending, how many are to be copied. Memory does not matter
 abbrev pub OverIs : Store → List ℕ → ℕ → Bool → Type 0
 OverIs s card f r = (memory : List ℕ) → r ≡ over (frames.lent s memory card) f
 
 abbrev pub PassedIs : Store → List ℕ → ℕ → Type 0
 PassedIs s card n = (memory : List ℕ) → n ≡ passedOf (frames.lent s memory card)
+
+abbrev pub LeftIs : Store → List ℕ → ℕ → ℕ → Type 0
+LeftIs s card f n = (memory : List ℕ) → n ≡ cond (over (frames.lent s memory card) f) 0 1
+
+abbrev pub MovesIs : Store → List ℕ → ℕ → Type 0
+MovesIs s card n = (memory : List ℕ) → 0 < s .pending .count → n ≡ movesLeft (over (frames.lent s memory card)) (meaningOf (frames.lent s memory card))
 
 -- a page that a call names by its OID: question 9's number, or 0 and its place. Its entry is one of a pot's in any case
 pub record NamedIs (g : Geometry) (oid : ℕ) (r : Named) : Type 0 where

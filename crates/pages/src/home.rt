@@ -1,11 +1,12 @@
-// The page at a home block, and how many committed entries are home or passed over: migration copies no page whose
-// flag is set in the committed generation's view of its pot.
+// The page at a home block, and how many committed entries are home or passed over, or to be copied: migration copies
+// no page whose flag is set in the committed generation's view of its pot.
 use super::named;
 use card::number;
 use card::range;
 use card::range::Address;
 use card::range::Lookup;
 use frames::advance;
+use frames::forecast;
 use frames::load;
 use record::list;
 use record::store::Store;
@@ -15,7 +16,7 @@ ghost use Prim.Native.Nat.{_+_, _≤_, _<_};
 ghost use Rattle.card.specs.Range.{rangesOf};
 ghost use Rattle.frames.specs.Parts.{Readable, MigratingIs};
 ghost use Rattle.pages.specs.Needed.{pageIn, pageAt};
-ghost use Rattle.pages.specs.Promise.{OverIs, PassedIs};
+ghost use Rattle.pages.specs.Promise.{OverIs, PassedIs, LeftIs, MovesIs};
 
 // Block o of a range whose first block is start.
 fn page_in(start: usize, o: usize) -> Lookup
@@ -92,4 +93,41 @@ pub fn passed(s: Store, card: &[u8]) -> usize
         return reached(s, card);
     }
     s.migrated
+}
+
+// 1 for a frame that is to be copied, 0 for one that is passed over.
+fn left_at(s: Store, card: &[u8], f: usize) -> usize
+    requires { ⌜ Readable s (now card) × ((s .geometry .area < f) × (f < s .geometry .blocks)) ⌝ }
+    ensures { λ r. ⌜ LeftIs s (now (card .entry)) f r × (r ≤ 1) ⌝ }
+{
+    if is_over(s, card, f) {
+        return 0;
+    }
+    1
+}
+
+// The entries that are to be copied.
+fn left(s: Store, card: &[u8]) -> usize
+    requires { ⌜ Readable s (now card) ⌝ }
+    ensures { λ r. ⌜ MovesIs s (now (card .entry)) r × (r ≤ 256) ⌝ }
+{
+    let frames = s.committed.frames;
+    let mut n = 0;
+    let mut i = s.migrated;
+    while i < s.committed.count {
+        n += left_at(s, card, list::at(&frames, i));
+        i += 1;
+    }
+    n
+}
+
+// How many committed entries the pending snapshot's header write waits for. With none pending nothing is looked up.
+pub fn moves(s: Store, card: &[u8]) -> usize
+    requires { ⌜ Readable s (now card) ⌝ }
+    ensures { λ r. ⌜ MovesIs s (now (card .entry)) r × (r ≤ 256) ⌝ }
+{
+    if forecast::is_pending(s) {
+        return left(s, card);
+    }
+    0
 }

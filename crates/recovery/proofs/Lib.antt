@@ -20,6 +20,7 @@ pub mod WaitLaws
 pub mod OrderedLaws
 pub mod Accept
 pub mod SumLaws
+pub mod ForecastLaws
 pub mod RoomLaws
 pub mod Follows
 pub mod FollowsStep

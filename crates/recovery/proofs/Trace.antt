@@ -2,7 +2,7 @@
 -- it: area 8, one range of 1 page (home block 10, its pot 9), 11 blocks, memory of 4 frames.
 -- Assumes nothing.
 use lib.Dec.{eqb}
-use mathlib.Core.Bool.{Bool}
+use mathlib.Core.Bool.{Bool, false}
 use Prim.Native.Nat.{ℕ, zero, suc}
 use mathlib.Core.List.{List, [], _∷_}
 use mathlib.Core.Option.{Option, none, some}
@@ -13,7 +13,7 @@ use Rattle.recovery.specs.Directory.{noteChange, insertByFrame, byFrame,
 use Rattle.recovery.specs.Questions.{snapshotAsks, pageOutAsks}
 use Rattle.recovery.specs.State.{places, State, size, directoryOf, empty, owed}
 use Rattle.recovery.specs.Step.{queued, changeFrame, changeFrames, afterChange, afterSnapshot, Kind, page, directory, trailer, migration, header, flush, oldestBytes, outOf, trailerBlockNo, nextMigration, kindWrite, afterKind, migrationDue, advanceDue, pageOutWrite, afterPageOut, passTo, migrating}
-use Rattle.recovery.specs.Sums.{leading, passedTo}
+use Rattle.recovery.specs.Sums.{leading, passedTo, movesOf, movesLeft, remainingWrites, commitWrites, forecast}
 
 record Line : Type 0 where
   kind : Kind
@@ -189,3 +189,35 @@ unfolding tracePast isPage rescinded-home rescinded traced line began advanceDue
     changeFrames changeFrame queued turnOf noteChange afterSnapshot outOf places size generationSize empty directoryOf
     dirOf downEntries byFrame insertByFrame nextMigration trailerBlockNo ringAt
 none-waited-for = refl
+
+-- ---- the forecast (#102)
+
+-- before each of n advances
+counted : (State → List ℕ) → Option Kind → State → List ℕ
+counted rest none s = []
+counted rest (some k) s = rest (afterKind k s)
+
+countdown : (ℕ → Bool) → ℕ → State → List ℕ
+countdown over zero s = []
+countdown over (suc n) s =
+    forecast over s
+    ∷ counted (countdown over n) (advanceDue (passTo (passedTo over s) s)) (passTo (passedTo over s) s)
+
+nonePassed : ℕ → Bool
+nonePassed f = false
+
+-- along the whole run, its first F not made at the snapshot: 1 after the start, 8 after the snapshot, 0 from the F
+-- after H on, while M goes on
+whole-forecast : (forecast nonePassed began ≡ 1)
+    × (countdown nonePassed 10 wrote ≡ 8 ∷ 7 ∷ 6 ∷ 5 ∷ 4 ∷ 3 ∷ 2 ∷ 1 ∷ 0 ∷ 0 ∷ [])
+unfolding countdown counted nonePassed forecast commitWrites remainingWrites movesLeft movesOf wrote began advanceDue
+    migrationDue migrating leading passedTo afterKind afterChange changeFrames changeFrame queued turnOf noteChange
+    afterSnapshot outOf places size generationSize empty directoryOf dirOf downEntries byFrame insertByFrame ringAt
+whole-forecast = (refl, refl)
+
+-- of the second snapshot with the M that is left, and of the one that does not wait for an empty page
+second-forecast : (forecast nonePassed second ≡ 7) × (forecast isPage rescinded-home ≡ 6)
+unfolding nonePassed isPage rescinded-home rescinded second down forecast commitWrites remainingWrites movesLeft movesOf
+    wrote began afterKind afterChange changeFrames changeFrame queued turnOf noteChange afterSnapshot outOf places size
+    generationSize empty directoryOf dirOf downEntries byFrame insertByFrame ringAt
+second-forecast = (refl, refl)

@@ -1,4 +1,5 @@
 -- Questions 12 to 14 and 20 once more, as plain sums over the ledger: each number has a sum behind it, and this is what demand 2 holds it to.
+-- And the forecast (#102), as a list and as a sum.
 -- Assumes nothing.
 use Prim.Native.Nat.{ℕ, suc, _+_, _-_}
 use lib.Dec.{leb, ltb, eqb}
@@ -67,6 +68,25 @@ remainingWrites over s =
     (replicate (length (s .pending .waiting)) page
     ++ (replicate (dirBlocks e - s .tailDown) directory
     ++ (replicate (1 - (s .tailDown - dirBlocks e)) trailer ++ (m ++ (cond (isFlushed (s .phase)) [] (flush ∷ []) ++ (header ∷ flush ∷ []))))))
+
+-- The forecast: how many of these advance has still to make until the pending snapshot is safe, which is at the flush
+-- after its header write. With none pending: the flush that is owed, if one is.
+unfoldable pub commitWrites : (ℕ → Bool) → State → List Kind
+commitWrites over s = cond (eqb (entryCount (s .pending)) 0) (cond (isOwed (s .phase)) (flush ∷ []) []) (remainingWrites over s)
+
+unfoldable pub forecast : (ℕ → Bool) → State → ℕ
+forecast over s = length (commitWrites over s)
+
+-- The same as document 02's sum: pending frames that wait, directory blocks that are not down, the trailer if it is not,
+-- migration writes left, the header; and #110's flushes: one that is owed, the one before the header unless it is made,
+-- the one after it.
+unfoldable pub commitSum : (ℕ → Bool) → State → ℕ
+commitSum over s =
+    let e = entryCount (s .pending) in
+    let owed : ℕ = cond (isOwed (s .phase)) 1 0 in
+    let before : ℕ = cond (isFlushed (s .phase)) 0 1 in
+    let trailing : ℕ = cond (ltb (dirBlocks e) (s .tailDown)) 0 1 in
+    cond (eqb e 0) owed (owed + (length (s .pending .waiting) + (dirBlocks e - s .tailDown) + trailing + movesLeft over s + 1) + before + 1)
 
 unfoldable pub firstOf : List Kind → Option Kind
 firstOf [] = none
