@@ -17,14 +17,14 @@ use Rattle.card.specs.Directory.{entryIn, entriesOf}
 use Rattle.card.specs.Ring.{ringAt}
 use Rattle.card.specs.declared.directory.Entry.{Entry}
 use Rattle.frames.proofs.ReadyLaws.{Ready, firsts}
-use Rattle.frames.specs.Parts.{Located, foundBytes, committedBytes}
+use Rattle.frames.specs.Parts.{Located, foundBytes, committedBytes, CommittedParts, PartsHeld, CommittedBlock}
 use Rattle.frames.specs.declared.answer.Found.{Found}
 use Rattle.record.proofs.Held.{Listed, Held, held, bounds}
 use Rattle.record.proofs.ListLaws.{first-none, first-found}
 use Rattle.record.proofs.SeatLaws.{seat-low}
 use Rattle.record.proofs.SoundLaws.{frame-is, same-index, queue-length, place-low, entry-inside, sound}
 use Rattle.record.specs.Holds.{holdsTogether}
-use Rattle.record.specs.Lists.{First}
+use Rattle.record.specs.Lists.{Rises, First}
 use Rattle.record.specs.Meaning.{waits, noteIn, notesOf, seatAt, queueOf, generationOf, committedOf, pendingFirst, currentFirst, stateOf}
 use Rattle.record.specs.declared.store.Changes.{Changes}
 use Rattle.record.specs.declared.store.Store.{Store}
@@ -130,6 +130,29 @@ module _ (s : Store) {f i : ℕ} (found : First (s .committed .frames) (s .commi
       at-card s (committedBytes s f) n (omega (arith, inside .0, bounds s h .area-inside)) (λ card memory. ap (blockAt card) q ∙ sym (overlay-lookup card (committedOf s .entries) (blockAt card) f ∙ ap (shown card (blockAt card f))
       (first-found (λ j xs. lookup f xs ≡ suc b) (entryIn (s .geometry .area) (s .first) (s .committed .frames) (s .committed .places)) (s .committed .frames) (s .committed .count) f i found (over-entry (suc b)) c
       (λ xs. rw (← found .is c) (lookup-hit (entryIn (s .geometry .area) (s .first) (s .committed .frames) (s .committed .places) i) xs)))))
+
+-- by the parts of the record
+module _ {area first : ℕ} {frames places : List ℕ} {count : ℕ} where
+  pub parts-rise : PartsHeld area first frames places count → (count ≤ 256) × Rises frames count
+  parts-rise k =
+      let h = held (k .store) (k .together) in
+      (omega (arith, k .parts .count-is, bounds (k .store) h .committed-small), rw (k .parts .frames-are, k .parts .count-is) (h .committed .rises))
+
+  module _ {f i : ℕ} (found : First frames count f i) where
+    found-in : (s : Store) → CommittedParts s area first frames places count → First (s .committed .frames) (s .committed .count) f i
+    found-in s p = rw (← p .frames-are, ← p .count-is) found
+
+    pub parts-home : (n : ℕ) → i ≡ count → n ≡ f → CommittedBlock area first frames places count f n
+    parts-home n e q = λ s p h l. at-home s (found-in s p) n (e ∙ p .count-is) q l
+
+    pub parts-fit : PartsHeld area first frames places count → i ≢ count → {place : ℕ} → place ≡ getD places i 0 → (area ≤ 512) × ((first ≤ area) × (place ≤ area))
+    parts-fit k d e =
+        let p = k .parts in
+        let fits = committed-fits (k .store) (found-in (k .store) p) (held (k .store) (k .together)) (λ z. d (z ∙ sym (p .count-is))) (e ∙ ap (λ (l : List ℕ). getD l i 0) (p .places-are)) in
+        (omega (arith, p .area-is, fits .0), (omega (arith, p .area-is, p .first-is, fits .1 .0), omega (arith, p .area-is, fits .1 .1)))
+
+    pub parts-entry : (n : ℕ) → i ≢ count → n ≡ ringAt area first (getD places i 0) → CommittedBlock area first frames places count f n
+    parts-entry n d q = λ s p h l. at-committed s (found-in s p) (held s h) n (λ z. d (z ∙ sym (p .count-is))) (q ∙ (rw (p .area-is, p .first-is, p .places-are) refl))
 
 -- a generation whose first block is `first`, and before whose waiting frames `ahead` others wait
 pub record Placed (s : Store) (g : Changes) (first ahead : ℕ) : Type 0 where

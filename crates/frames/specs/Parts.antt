@@ -11,7 +11,7 @@ use Rattle.card.specs.Bytes.{tabulate}
 use Rattle.card.specs.Checkpoint.{Recovered}
 use Rattle.card.specs.Question.{firstNo}
 use Rattle.card.specs.declared.checkpoint.Checkpoint.{Checkpoint}
-use Rattle.frames.specs.Promise.{lent, commonAsks, change, FrameKept, numbered}
+use Rattle.frames.specs.Promise.{lent, commonAsks, change, FrameKept, numbered, LoadsCommitted}
 use Rattle.frames.specs.declared.answer.Found.{Found}
 use Rattle.frames.specs.declared.answer.Need.{Need}
 use Rattle.frames.specs.declared.answer.Wrote.{Wrote}
@@ -86,6 +86,26 @@ pub record Located (s : Store) (bytes : List ℕ → List ℕ → List ℕ) (r :
   pub in-memory : r .memory ≡ true → r .number < s .frames
   pub on-card : r .memory ≡ false → r .number < s .geometry .blocks
 
+-- a record's committed directory in parts: area, the generation's first block, frames, places, how many entries
+pub record CommittedParts (s : Store) (area first : ℕ) (frames places : List ℕ) (count : ℕ) : Type 0 where
+  pub area-is : area ≡ s .geometry .area
+  pub first-is : first ≡ s .first
+  pub frames-are : frames ≡ s .committed .frames
+  pub places-are : places ≡ s .committed .places
+  pub count-is : count ≡ s .committed .count
+
+-- some record has these parts, and holds together, or is lent with a card on which the frame lies
+pub record PartsHeld (area first : ℕ) (frames places : List ℕ) (count : ℕ) : Type 0 where
+  pub store : Store
+  pub parts : CommittedParts store area first frames places count
+  pub together : holdsTogether store ≡ true
+
+pub record PartsLent (area first : ℕ) (frames places : List ℕ) (count : ℕ) (card : List ℕ) (frame : ℕ) : Type 0 where
+  pub store : Store
+  pub parts : CommittedParts store area first frames places count
+  pub readable : Readable store card
+  pub inside : frame < store .geometry .blocks
+
 -- committed over home, and pending over these
 abbrev pub committedBytes : Store → ℕ → List ℕ → List ℕ → List ℕ
 committedBytes s f card memory = overlay (storedFrames card (committedOf s .entries)) (blockAt card) f
@@ -97,6 +117,15 @@ pendingBytes s f card memory =
 
 abbrev pub newestBytes : Store → ℕ → List ℕ → List ℕ → List ℕ
 newestBytes s f card memory = readFrame (stateOf s memory) card f
+
+-- the block that has a frame, and its bytes, of every record with these parts
+abbrev pub CommittedBlock : (area first : ℕ) (frames places : List ℕ) (count frame block : ℕ) → Type 0
+CommittedBlock area first frames places count frame block = (s : Store) → CommittedParts s area first frames places count → holdsTogether s ≡ true → frame < s .geometry .blocks
+    → Located s (committedBytes s frame) (record { memory = false; number = block })
+
+abbrev pub CommittedShows : (area first : ℕ) (frames places : List ℕ) (count : ℕ) (card : List ℕ) (frame : ℕ) (bytes : List ℕ) → Type 0
+CommittedShows area first frames places count card frame bytes = (s : Store) → CommittedParts s area first frames places count → Readable s card → frame < s .geometry .blocks
+    → (memory : List ℕ) → LoadsCommitted (lent s memory card) frame bytes
 
 -- ---- room and change
 

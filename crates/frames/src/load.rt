@@ -6,31 +6,49 @@ use card::number;
 use card::ring;
 use record::list;
 use record::store::Store;
-ghost use mathlib.Core.List.{List};
 ghost use mathlib.Core.Path.{_≡_};
 ghost use mathlib.Core.Bool.{true, false};
-ghost use Prim.Native.Nat.{ℕ, _≤_, _<_};
+ghost use Prim.Native.Nat.{_≤_, _<_};
 ghost use lib.ListN.{length};
 ghost use Rattle.card.specs.Question.{firstNo};
 ghost use Rattle.record.specs.Holds.{holdsTogether};
-ghost use Rattle.frames.specs.Promise.{commonAsks, lent, Loads, LoadsCommitted};
-ghost use Rattle.frames.specs.Parts.{Located, Readable, committedBytes, pendingBytes, newestBytes};
+ghost use Rattle.frames.specs.Promise.{commonAsks, lent, Loads};
+ghost use Rattle.frames.specs.Parts.{Located, PartsHeld, PartsLent, CommittedBlock, CommittedShows, committedBytes, pendingBytes, newestBytes};
+
+// The block that the committed generation has of a frame, in the area or home. It takes the parts of the record that it
+// looks at: a record that is handed on is copied.
+fn committed_block(
+    area: usize,
+    first: usize,
+    frames: &[u16; 256],
+    places: &[u8; 256],
+    count: usize,
+    frame: u16,
+) -> usize
+    requires { ⌜ PartsHeld area first (now frames) (now places) count ⌝ }
+    ensures { λ r. ⌜ CommittedBlock area first (now (frames .entry)) (now (places .entry)) count frame r ⌝ }
+{
+    let i = list::find(frames, count, frame);
+    if i == count {
+        return number::from_short(frame);
+    }
+    ring::at(area, first, list::place_at(places, i))
+}
 
 fn in_committed(s: Store, frame: u16) -> Found
     requires { ⌜ (holdsTogether s ≡ true) × (frame < s .geometry .blocks) ⌝ }
-    ensures { λ r. ⌜ Located s (committedBytes s frame) r × (r .memory ≡ false) ⌝ }
+    ensures { λ r. ⌜ Located s (committedBytes s frame) r ⌝ }
 {
     let frames = s.committed.frames;
-    let i = list::find(&frames, s.committed.count, frame);
-    if i == s.committed.count {
-        let home = number::from_short(frame);
-        return Found {
-            memory: false,
-            number: home,
-        };
-    }
     let places = s.committed.places;
-    let to = ring::at(s.geometry.area, s.first, list::place_at(&places, i));
+    let to = committed_block(
+        s.geometry.area,
+        s.first,
+        &frames,
+        &places,
+        s.committed.count,
+        frame,
+    );
     Found {
         memory: false,
         number: to,
@@ -104,12 +122,19 @@ pub fn load<'a>(s: Store, card: &'a [u8], memory: &'a [u8], frame: usize) -> &'a
     block::at(card, at)
 }
 
-// The bytes that the committed generation shows of a frame, as a part of the card.
-pub fn committed(s: Store, card: &[u8], frame: usize) -> &[u8]
-    requires { ⌜ Readable s (now card) × (frame < s .geometry .blocks) ⌝ }
-    ensures { λ r. ⌜ ((memory : List ℕ) → LoadsCommitted (lent s memory (now (card .entry))) frame (now r)) × (length (now r) ≡ 512) ⌝ }
+// The bytes that the committed generation shows of a frame, as a part of the card; by the parts of the record too.
+pub fn committed<'a>(
+    area: usize,
+    first: usize,
+    frames: &[u16; 256],
+    places: &[u8; 256],
+    count: usize,
+    card: &'a [u8],
+    frame: usize,
+) -> &'a [u8]
+    requires { ⌜ PartsLent area first (now frames) (now places) count (now card) frame ⌝ }
+    ensures { λ r. ⌜ CommittedShows area first (now (frames .entry)) (now (places .entry)) count (now (card .entry)) frame (now r) × (length (now r) ≡ 512) ⌝ }
 {
-    let r = in_committed(s, number::short(frame));
-    let at = r.number;
+    let at = committed_block(area, first, frames, places, count, number::short(frame));
     block::at(card, at)
 }

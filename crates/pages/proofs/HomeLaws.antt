@@ -5,8 +5,8 @@ use lib.ListN.{length, getD, drop, length-drop}
 use lib.Seq.{drop-cons}
 use mathlib.Core.Bool.{Bool, true, false, cond, not}
 use mathlib.Core.List.{List, [], _∷_}
-use mathlib.Core.Path.{_≡_, refl, ap, sym, _∙_}
-use native.Mathlib.Nat.{zero-add}
+use mathlib.Core.Path.{_≡_, refl, ap, sym, _∙_, subst}
+use native.Mathlib.Nat.{zero-add, add-zero}
 use native.Mathlib.Omega.{arith}
 use Rattle.card.proofs.BytesLaws.{tab-length, tab-getD, none-long}
 use Rattle.card.proofs.DirectoryLaws.{entries-length}
@@ -16,16 +16,18 @@ use Rattle.card.specs.Pot.{flagsAt, isZero}
 use Rattle.card.specs.Range.{rangeIn, rangesOf, allBlocks}
 use Rattle.card.specs.declared.directory.Entry.{Entry}
 use Rattle.card.specs.declared.range.Address.{Address}
+use Rattle.card.specs.declared.range.Lookup.{Lookup}
 use Rattle.card.specs.declared.range.Lookup.the-variants.{Located, Outside}
-use Rattle.frames.specs.Parts.{Readable, MigratingIs}
+use Rattle.frames.specs.Parts.{Readable, MigratingIs, CommittedParts, PartsLent}
 use Rattle.frames.specs.Promise.{lent, meaningOf, LoadsCommitted}
 use Rattle.pages.proofs.NeededLaws.{At, at-tells, pot-needed, page-needed}
 use Rattle.pages.specs.Needed.{pageAt}
 use Rattle.pages.specs.Page.{flagged}
-use Rattle.pages.specs.Promise.{committedFrames, over, passedOf, OverIs, PassedIs, LeftIs, MovesIs}
+use Rattle.pages.specs.Promise.{committedFrames, over, passedOf, OverIs, PassedIs, MovesIs, OverAsked}
 use Rattle.record.proofs.Held.{held, bounds}
 use Rattle.record.specs.Holds.{holdsTogether}
 use Rattle.record.specs.Meaning.{committedOf, phaseOf}
+use Rattle.record.specs.declared.store.Geometry.{Geometry}
 use Rattle.record.specs.declared.store.Store.{Store}
 use Rattle.recovery.proofs.SumLaws.{passed-within, passed-more, passed-early, passed-owed}
 use Rattle.recovery.specs.Sums.{leading, movesOf, movesLeft, passedTo}
@@ -65,6 +67,39 @@ module _ (s : Store) (card : List ℕ) (w : Readable s card) where
       pub over-some : (pot : List ℕ) → ((memory : List ℕ) → LoadsCommitted (lent s memory card) (p .pot) pot) → (r : Bool) → r ≡ isZero (flagsAt pot (p .entry)) → OverIs s card f r
       over-some pot is r q = λ memory. q ∙ ap (λ (x : List ℕ). isZero (flagsAt x (p .entry))) (is memory) ∙ not-not (flagged (committedFrames (lent s memory card)) p)
           ∙ sym (ap not (page-needed (rangesOf (s .geometry .ranges) (s .geometry .count)) (s .geometry .area) (s .geometry .blocks) home-full (committedFrames (lent s memory card)) f p e))
+
+-- ---- by the parts of a record
+
+-- the page at a home block
+abbrev pub pageBy : Geometry → ℕ → Lookup
+pageBy g f = pageAt (rangesOf (g .ranges) (g .count)) (1 + g .area) f
+
+module _ {g : Geometry} {first : ℕ} {frames places : List ℕ} {count : ℕ} {card : List ℕ} {f : ℕ} (k : OverAsked g first frames places count card f) where
+  pub asked-searchable : (g .area ≤ 512) × ((g .count ≤ 8) × ((g .area < f) × (f ≤ 65536)))
+  asked-searchable =
+      let low = home-searchable (k .store) card (k .readable) in
+      let same : g .blocks ≡ k .store .geometry .blocks = ap (λ (x : Geometry). x .blocks) (k .geometry-is) in (
+        subst (λ (x : Geometry). x .area ≤ 512) (sym (k .geometry-is)) (low .0),
+        (subst (λ (x : Geometry). x .count ≤ 8) (sym (k .geometry-is)) (low .1), (k .home .0, omega (arith, k .home .1, same, k .readable .card-few))),
+      )
+
+  module _ (p : Address) (e : pageBy g f ≡ Located p) where
+    there : pageBy (k .store .geometry) f ≡ Located p
+    there = sym (ap (λ (x : Geometry). pageBy x f) (k .geometry-is)) ∙ e
+
+    pub asked-lent : PartsLent (g .area) first frames places count card (p .pot)
+    asked-lent = record { store = k .store; parts = k .parts; readable = k .readable; inside = pot-inside (k .store) card (k .readable) f p there }
+
+    pub asked-entry : p .entry < 102
+    asked-entry = entry-inside (k .store) card (k .readable) f p there
+
+-- a record has its own parts
+pub own-parts : (s : Store) → CommittedParts s (s .geometry .area) (s .first) (s .committed .frames) (s .committed .places) (s .committed .count)
+own-parts s = record { area-is = refl; first-is = refl; frames-are = refl; places-are = refl; count-is = refl }
+
+pub own-asked : (s : Store) (card : List ℕ) (f : ℕ) → Readable s card → (s .geometry .area < f) × (f < s .geometry .blocks)
+    → OverAsked (s .geometry) (s .first) (s .committed .frames) (s .committed .places) (s .committed .count) card f
+own-asked s card f w h = record { store = s; geometry-is = refl; parts = own-parts s; readable = w; home = h }
 
 -- ---- how many are passed over
 
@@ -143,9 +178,6 @@ module _ (s : Store) (card : List ℕ) where
 
 -- ---- how many are to be copied
 
-pub left-over : (s : Store) (card : List ℕ) (f : ℕ) (r : Bool) → OverIs s card f r → (n : ℕ) → n ≡ cond r 0 1 → LeftIs s card f n
-left-over s card f r o n e = λ memory. e ∙ ap (λ (t : Bool). cond t 0 1) (o memory)
-
 -- n are counted, and the i-th entry on are still to be looked at
 abbrev pub MovesFrom : Store → List ℕ → ℕ → ℕ → Type 0
 MovesFrom s card n i = (memory : List ℕ) → movesLeft (over (lent s memory card)) (meaningOf (lent s memory card)) ≡ n + movesOf (over (lent s memory card)) (drop i (committedOf s .entries))
@@ -164,11 +196,18 @@ module _ (s : Store) (card : List ℕ) where
         go true e = e ∙ omega arith
         go false e = omega (arith, e)
 
-    pub moves-next : (n f : ℕ) → f ≡ getD (s .committed .frames) i 0 → (r : ℕ) → LeftIs s card f r → MovesFrom s card n i → MovesFrom s card (n + r) (i + 1)
-    moves-next n f e r q p = λ memory.
+    -- one that is passed over is not counted, any other is
+    moves-by : (n f : ℕ) → f ≡ getD (s .committed .frames) i 0 → (r : Bool) → OverIs s card f r → (k : ℕ) → k ≡ cond r 0 1 → MovesFrom s card n i → MovesFrom s card (n + k) (i + 1)
+    moves-by n f e r q k is p = λ memory.
         let o = over (lent s memory card) in
-        let r-is : r ≡ cond (o (getD (s .committed .frames) i 0)) 0 1 = q memory ∙ ap (λ (g : ℕ). cond (o g) 0 1) e in
-        omega (arith, p memory, counts o, r-is)
+        let k-is : k ≡ cond (o (getD (s .committed .frames) i 0)) 0 1 = is ∙ ap (λ (t : Bool). cond t 0 1) (q memory ∙ ap o e) in
+        omega (arith, p memory, counts o, k-is)
+
+    pub moves-over : (n f : ℕ) → f ≡ getD (s .committed .frames) i 0 → (r : Bool) → OverIs s card f r → r ≡ true → MovesFrom s card n i → MovesFrom s card n (i + 1)
+    moves-over n f e r q t p = subst (λ (m : ℕ). MovesFrom s card m (i + 1)) (add-zero n) (moves-by n f e r q 0 (sym (ap (λ (x : Bool). cond x 0 1) t)) p)
+
+    pub moves-one : (n f : ℕ) → f ≡ getD (s .committed .frames) i 0 → (r : Bool) → OverIs s card f r → r ≡ false → MovesFrom s card n i → MovesFrom s card (n + 1) (i + 1)
+    moves-one n f e r q t p = moves-by n f e r q 1 (sym (ap (λ (x : Bool). cond x 0 1) t)) p
 
   pub moves-end : (n i : ℕ) → s .committed .count ≤ i → MovesFrom s card n i → MovesIs s card n
   unfolding movesOf

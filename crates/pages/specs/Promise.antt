@@ -13,6 +13,7 @@ use Rattle.card.specs.Range.{Range, rangesOf, geometryFits, locate}
 use Rattle.card.specs.declared.range.Address.{Address}
 use Rattle.card.specs.declared.range.Lookup.{Lookup}
 use Rattle.card.specs.declared.range.Lookup.the-variants.{Located, Outside}
+use Rattle.frames.specs.Parts.{CommittedParts, Readable}
 use Rattle.frames.specs.Promise as frames
 use Rattle.frames.specs.Promise.{Lent, meaningOf, common, Outcome, outcomeOf, Keeps, FrameCall, FrameAnswer, numbered, past}
 use Rattle.pages.specs.Needed.{needed}
@@ -182,19 +183,28 @@ pub record FormatKept (area : ℕ) (numbers before : List ℕ) (a : Answer) (car
 abbrev pub placeIn : Geometry → ℕ → Lookup
 placeIn g oid = locate (rangesOf (g .ranges) (g .count)) (1 + g .area) oid
 
--- whether migration passes over a frame; how many entries are home or passed over; 1 for a frame that is to be copied and
--- 0 for any other; with a snapshot pending, how many are to be copied. Memory does not matter
+-- whether migration passes over a frame; how many entries are home or passed over; with a snapshot pending, how many are
+-- to be copied. Memory does not matter
 abbrev pub OverIs : Store → List ℕ → ℕ → Bool → Type 0
 OverIs s card f r = (memory : List ℕ) → r ≡ over (frames.lent s memory card) f
 
 abbrev pub PassedIs : Store → List ℕ → ℕ → Type 0
 PassedIs s card n = (memory : List ℕ) → n ≡ passedOf (frames.lent s memory card)
 
-abbrev pub LeftIs : Store → List ℕ → ℕ → ℕ → Type 0
-LeftIs s card f n = (memory : List ℕ) → n ≡ cond (over (frames.lent s memory card) f) 0 1
-
 abbrev pub MovesIs : Store → List ℕ → ℕ → Type 0
 MovesIs s card n = (memory : List ℕ) → 0 < s .pending .count → n ≡ movesLeft (over (frames.lent s memory card)) (meaningOf (frames.lent s memory card))
+
+-- Whether migration passes over a frame, by the parts of a record: some record with these parts is lent with the card, and
+-- the frame is one of its home blocks; and what is told of every such record.
+pub record OverAsked (g : Geometry) (first : ℕ) (frames places : List ℕ) (count : ℕ) (card : List ℕ) (f : ℕ) : Type 0 where
+  pub store : Store
+  pub geometry-is : g ≡ store .geometry
+  pub parts : CommittedParts store (g .area) first frames places count
+  pub readable : Readable store card
+  pub home : (g .area < f) × (f < g .blocks)
+
+abbrev pub OverBy : Geometry → ℕ → List ℕ → List ℕ → ℕ → List ℕ → ℕ → Bool → Type 0
+OverBy g first frames places count card f r = (s : Store) → g ≡ s .geometry → CommittedParts s (g .area) first frames places count → Readable s card → OverIs s card f r
 
 -- a page that a call names by its OID: question 9's number, or 0 and its place. Its entry is one of a pot's in any case
 pub record NamedIs (g : Geometry) (oid : ℕ) (r : Named) : Type 0 where

@@ -9,6 +9,7 @@ use frames::advance;
 use frames::forecast;
 use frames::load;
 use record::list;
+use record::store::Geometry;
 use record::store::Store;
 ghost use mathlib.Core.Bool.{true};
 ghost use mathlib.Core.Path.{_≡_};
@@ -16,7 +17,7 @@ ghost use Prim.Native.Nat.{_+_, _≤_, _<_};
 ghost use Rattle.card.specs.Range.{rangesOf};
 ghost use Rattle.frames.specs.Parts.{Readable, MigratingIs};
 ghost use Rattle.pages.specs.Needed.{pageIn, pageAt};
-ghost use Rattle.pages.specs.Promise.{OverIs, PassedIs, LeftIs, MovesIs};
+ghost use Rattle.pages.specs.Promise.{OverAsked, OverBy, PassedIs, MovesIs};
 
 // Block o of a range whose first block is start.
 fn page_in(start: usize, o: usize) -> Lookup
@@ -54,15 +55,23 @@ fn page_at(area: usize, numbers: &[u32; 16], count: usize, f: usize) -> Lookup
     Lookup::Outside
 }
 
-// Does migration pass over a frame?
-fn is_over(s: Store, card: &[u8], f: usize) -> bool
-    requires { ⌜ Readable s (now card) × ((s .geometry .area < f) × (f < s .geometry .blocks)) ⌝ }
-    ensures { λ r. ⌜ OverIs s (now (card .entry)) f r ⌝ }
+// Does migration pass over a frame? By the parts of the record that are looked at, as `load::committed`.
+fn is_over(
+    g: Geometry,
+    first: usize,
+    frames: &[u16; 256],
+    places: &[u8; 256],
+    count: usize,
+    card: &[u8],
+    f: usize,
+) -> bool
+    requires { ⌜ OverAsked g first (now frames) (now places) count (now card) f ⌝ }
+    ensures { λ r. ⌜ OverBy g first (now (frames .entry)) (now (places .entry)) count (now (card .entry)) f r ⌝ }
 {
-    let g = s.geometry;
     match page_at(g.area, &g.ranges, g.count, f) {
         Lookup::Located(address) => {
-            named::is_zero(load::committed(s, card, address.pot), address.entry)
+            let pot = load::committed(g.area, first, frames, places, count, card, address.pot);
+            named::is_zero(pot, address.entry)
         },
         Lookup::Outside => false,
     }
@@ -73,10 +82,21 @@ fn reached(s: Store, card: &[u8]) -> usize
     requires { ⌜ Readable s (now card) × MigratingIs s true ⌝ }
     ensures { λ r. ⌜ PassedIs s (now (card .entry)) r ⌝ }
 {
-    let frames = s.committed.frames;
+    let g = s.geometry;
+    let d = s.committed;
+    let frames = d.frames;
+    let places = d.places;
     let mut i = s.migrated;
-    while i < s.committed.count {
-        if !is_over(s, card, list::at(&frames, i)) {
+    while i < d.count {
+        if !is_over(
+            g,
+            s.first,
+            &frames,
+            &places,
+            d.count,
+            card,
+            list::at(&frames, i),
+        ) {
             return i;
         }
         i += 1;
@@ -95,27 +115,31 @@ pub fn passed(s: Store, card: &[u8]) -> usize
     s.migrated
 }
 
-// 1 for a frame that is to be copied, 0 for one that is passed over.
-fn left_at(s: Store, card: &[u8], f: usize) -> usize
-    requires { ⌜ Readable s (now card) × ((s .geometry .area < f) × (f < s .geometry .blocks)) ⌝ }
-    ensures { λ r. ⌜ LeftIs s (now (card .entry)) f r × (r ≤ 1) ⌝ }
-{
-    if is_over(s, card, f) {
-        return 0;
-    }
-    1
-}
-
 // The entries that are to be copied.
 fn left(s: Store, card: &[u8]) -> usize
     requires { ⌜ Readable s (now card) ⌝ }
     ensures { λ r. ⌜ MovesIs s (now (card .entry)) r × (r ≤ 256) ⌝ }
 {
-    let frames = s.committed.frames;
+    let g = s.geometry;
+    let d = s.committed;
+    let frames = d.frames;
+    let places = d.places;
     let mut n = 0;
     let mut i = s.migrated;
-    while i < s.committed.count {
-        n += left_at(s, card, list::at(&frames, i));
+    while i < d.count {
+        if is_over(
+            g,
+            s.first,
+            &frames,
+            &places,
+            d.count,
+            card,
+            list::at(&frames, i),
+        ) {
+            i += 1;
+            continue;
+        }
+        n += 1;
         i += 1;
     }
     n

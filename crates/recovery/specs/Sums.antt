@@ -69,8 +69,8 @@ remainingWrites over s =
     ++ (replicate (dirBlocks e - s .tailDown) directory
     ++ (replicate (1 - (s .tailDown - dirBlocks e)) trailer ++ (m ++ (cond (isFlushed (s .phase)) [] (flush ∷ []) ++ (header ∷ flush ∷ []))))))
 
--- The forecast: how many of these advance has still to make until the pending snapshot is safe, which is at the flush
--- after its header write. With none pending: the flush that is owed, if one is.
+-- What advance has still to make until the pending snapshot is safe, which it is at the flush after its header write: all
+-- of it. With none pending: the flush that is owed, if one is. The forecast is how many these are (#102).
 unfoldable pub commitWrites : (ℕ → Bool) → State → List Kind
 commitWrites over s = cond (eqb (entryCount (s .pending)) 0) (cond (isOwed (s .phase)) (flush ∷ []) []) (remainingWrites over s)
 

@@ -14,7 +14,7 @@ returns : tie.Need-returns
 returns c =
     let at-start = c .before .before .before .before .before .before in
     let placed = pending-placed (at-start .args .s) (at-start .pre .0) in
-    under placed (c .before .before .before .find .ensures) (λ card memory f. committedBytes (at-start .args .s) f card memory) _ (c .before .if1 .taken) (c .in-committed .ensures .0)
+    under placed (c .before .before .before .find .ensures) (λ card memory f. committedBytes (at-start .args .s) f card memory) _ (c .before .if1 .taken) (c .in-committed .ensures)
 
 place-at-requires : tie.Need-place-at-requires
 place-at-requires c κs =
