@@ -1,5 +1,5 @@
 /// The slips: each is one line of the layer in C and what stands in its place.
-const SLIPS: [Slip; 31] = [
+const SLIPS: [Slip; 33] = [
     Slip {
         name: "no_flush_before_header",
         line: "return flush(lane);",
@@ -139,6 +139,16 @@ const SLIPS: [Slip; 31] = [
         name: "advance_keeps_back",
         line: "int handed = hand_over(lane);",
         instead: "int handed = LANE_DONE;",
+    },
+    Slip {
+        name: "forecast_to_header",
+        line: "*advances = foretold.advances;",
+        instead: "*advances = foretold.advances > 0 ? foretold.advances - 1 : 0;",
+    },
+    Slip {
+        name: "forecast_left_open",
+        line: "*advances = 0;",
+        instead: "",
     },
     Slip {
         name: "create_not_flushed",

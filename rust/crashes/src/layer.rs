@@ -38,6 +38,7 @@ pub trait Lane {
     /// None where nothing is due.
     fn advance(&mut self) -> Result<Option<Report>, Fault>;
     fn settle(&mut self) -> Result<(), Fault>;
+    fn forecast(&mut self) -> Result<u32, Fault>;
 }
 
 /// A layer over a recorded drive.

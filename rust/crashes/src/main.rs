@@ -4,7 +4,8 @@
 //! with a create, or on a card that was formatted over any bytes. At every point of it the cards are
 //! made that a cut may leave. Each is opened by the layer again, and every page and count is held to
 //! the snapshot that the card's own header names. That must not be older than the last commit that
-//! was answered done. Drives that fail are tried too.
+//! was answered done. What a layer foretells is held to what it then makes. Drives that fail are tried
+//! too.
 //!
 //! The layer in C is the object code that is shipped, over a system of this crate's own.
 
@@ -16,6 +17,7 @@ mod cuts;
 mod day;
 mod doubt;
 mod failures;
+mod foretold;
 mod layer;
 mod linked;
 mod opened;
@@ -78,7 +80,8 @@ fn main() -> ExitCode {
     println!("seed {seed}");
     print!("{}", table(&both.rust.tally, &both.c.tally));
     println!(
-        "{} long days recorded alike in Rust and C; {} writes begun beside others in C; {:.1} s",
+        "{} long days recorded and foretold alike in Rust and C; {} writes begun beside others \
+         in C; {:.1} s",
         both.alike,
         spaced(system::with(|system| system.together())),
         begun.elapsed().as_secs_f64()

@@ -119,4 +119,8 @@ impl<D: Drive> layer::Lane for file::Lane<D> {
     fn settle(&mut self) -> Result<(), Fault> {
         file::Lane::settle(self).map_err(fault)
     }
+
+    fn forecast(&mut self) -> Result<u32, Fault> {
+        file::Lane::forecast(self).map_err(fault)
+    }
 }

@@ -67,6 +67,7 @@ pub struct Calls {
     commit: Plain,
     advance: unsafe extern "C" fn(Lane, *mut c::Report) -> c_int,
     settle: Plain,
+    forecast: unsafe extern "C" fn(Lane, *mut u32) -> c_int,
     close: unsafe extern "C" fn(Lane),
 }
 
@@ -122,6 +123,8 @@ macro_rules! build {
                 fn advance(lane: Lane, report: *mut c::Report) -> c_int;
                 #[link_name = concat!($begin, "lane_file_settle")]
                 fn settle(lane: Lane) -> c_int;
+                #[link_name = concat!($begin, "lane_file_forecast")]
+                fn forecast(lane: Lane, advances: *mut u32) -> c_int;
                 #[link_name = concat!($begin, "lane_file_close")]
                 fn close(lane: Lane);
             }
@@ -139,6 +142,7 @@ macro_rules! build {
                 commit,
                 advance,
                 settle,
+                forecast,
                 close,
             }
         };
@@ -330,6 +334,17 @@ impl layer::Lane for Linked {
 
     fn settle(&mut self) -> Result<(), Fault> {
         self.call(self.calls.settle)
+    }
+
+    /// Not done, it tells 0.
+    fn forecast(&mut self) -> Result<u32, Fault> {
+        let mut advances = u32::MAX;
+        // SAFETY: the lane is open, and there is room for a number.
+        let answer = done(unsafe { (self.calls.forecast)(self.lane, &mut advances) });
+        match (answer, advances) {
+            (Err(fault), 1..) => Err(Fault::Other(format!("{fault:?}, and tells {advances}"))),
+            (answer, _) => answer.map(|()| advances),
+        }
     }
 }
 

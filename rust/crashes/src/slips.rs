@@ -151,6 +151,8 @@ slips! {
     c_open_writes: by_cuts, in_c(&shim::OPEN_WRITES), "opening writes a block";
     c_close_writes: by_cuts, in_c(&shim::CLOSE_WRITES), "a lane that is dropped writes";
     c_advance_keeps_back: by_cuts, in_c(&shim::ADVANCE_KEEPS_BACK), "has not reached the drive";
+    c_forecast_to_header: by_cuts, in_c(&shim::FORECAST_TO_HEADER), "with 6 foretold";
+    c_forecast_left_open: by_failures, in_c(&shim::FORECAST_LEFT_OPEN), "and tells";
     c_goes_on_after_flush: by_failures, in_c(&shim::GOES_ON_AFTER_FLUSH), "lane is stopped, and";
     c_goes_on_after_write: by_failures, in_c(&shim::GOES_ON_AFTER_WRITE), "lane is stopped, and";
     c_flush_retried: by_failures, in_c(&shim::FLUSH_RETRIED), "Flush after the drive has failed";

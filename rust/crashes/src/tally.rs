@@ -5,6 +5,8 @@ pub struct Tally {
     pub days: u64,
     pub calls: u64,
     pub points: u64,
+    /// Calls before which something was foretold.
+    pub foretold: u64,
     /// Headers whose trailer stands before that of the last one in the ring.
     pub rounds: u64,
     pub failures: u64,
@@ -27,10 +29,11 @@ pub struct Tally {
 type Row = (&'static str, u64, u64);
 
 impl Tally {
-    fn rows(&self) -> [Row; 15] {
+    fn rows(&self) -> [Row; 16] {
         [
             ("days", self.days, 190_000),
             ("calls", self.calls, 1_000_000),
+            ("  foretold", self.foretold, 40_000),
             ("points", self.points, 300_000),
             ("rounds of the ring", self.rounds, 1_000),
             ("failures of the drive", self.failures, 600),
@@ -84,7 +87,7 @@ mod tests {
 
     #[test]
     fn nothing_reached_is_missing() {
-        assert_eq!(Tally::default().missing().len(), 15);
+        assert_eq!(Tally::default().missing().len(), 16);
     }
 
     #[test]

@@ -8,6 +8,7 @@ use crate::block::{block, commit, trailer, Block, HEADER};
 use crate::cuts::Effort;
 use crate::day::Call;
 use crate::doubt::Doubt;
+use crate::foretold::{made, Foretold};
 use crate::layer::{Answer, Fault, Lane, Layer};
 use crate::opened::shows;
 use crate::recorded::{shared, Event, Shared};
@@ -78,8 +79,12 @@ pub struct Trial<'a> {
     record: Shared,
     lane: Option<Box<dyn Lane>>,
     told: Vec<String>,
-    /// How many of the record's events are in doubt or flushed by now.
+    /// How many of the record's events are in doubt or flushed by now, and were before the last
+    /// call.
     walked: usize,
+    from: usize,
+    /// The forecast after each call.
+    foretold: Vec<u32>,
     life: Life,
     part: Part,
 }
@@ -110,6 +115,8 @@ impl<'a> Trial<'a> {
             lane: None,
             told: vec![layer.name(), shape.to_string()],
             walked: 0,
+            from: 0,
+            foretold: Vec::new(),
             life: Life::Creating(before.shows.map(|pages| Box::new((header, pages)))),
             part: Part::Plain,
         }
@@ -121,6 +128,10 @@ impl<'a> Trial<'a> {
 
     pub fn tables(&self) -> &Tables {
         &self.tables
+    }
+
+    pub fn foretold(&self) -> &[u32] {
+        &self.foretold
     }
 
     /// Creates the card, with cuts or without.
@@ -156,18 +167,18 @@ impl<'a> Trial<'a> {
     fn make(&mut self, call: &Call, cut: bool) -> Result<Answer, Wrong> {
         self.run.tally.calls += 1;
         self.tables.begin(call, self.shape.room);
-        let from = self.walked;
+        self.from = self.walked;
         let answer = self.answer(call);
         self.told.push(format!("{call}: {}", answer.text()));
         self.walk(cut)?;
         if let Answer::Report(Some(report)) = answer {
-            self.reported(from, report)?;
+            self.reported(report)?;
         }
         Ok(answer)
     }
 
     /// What an advance reports has reached the drive.
-    fn reported(&self, from: usize, report: Report) -> Result<(), Wrong> {
+    fn reported(&self, report: Report) -> Result<(), Wrong> {
         let reached = |event: &Event| match (event, report.block()) {
             (Event::Write { first, bytes, .. }, Some(block)) => {
                 (*first..first + bytes.len() / BLOCK).contains(&block)
@@ -175,7 +186,10 @@ impl<'a> Trial<'a> {
             (Event::Flush { .. }, None) => true,
             _ => false,
         };
-        match self.record.borrow().events()[from..].iter().any(reached) {
+        match self.record.borrow().events()[self.from..]
+            .iter()
+            .any(reached)
+        {
             true => Ok(()),
             false => self.wrong(format!("{report} has not reached the drive")),
         }
@@ -191,7 +205,28 @@ impl<'a> Trial<'a> {
         }
         let ended = self.tables.end(call, self.shape.room, answer);
         ended.or_else(|what| self.wrong(what))?;
-        self.answered()
+        self.answered()?;
+        self.hold_forecast(call, answer)
+    }
+
+    /// What was foretold before the call has come. A lane that was just opened foretells nothing.
+    fn hold_forecast(&mut self, call: &Call, answer: &Answer) -> Result<(), Wrong> {
+        let lane = self.lane.as_mut().expect("the lane is open");
+        let after = match lane.forecast() {
+            Ok(after) => after,
+            Err(fault) => return self.wrong(format!("forecast is answered {fault:?}")),
+        };
+        let foretold = Foretold {
+            call,
+            answer,
+            room: self.shape.room,
+            before: self.foretold.last().copied().unwrap_or(0),
+            after,
+            made: made(&self.record.borrow().events()[self.from..]),
+        };
+        self.foretold.push(after);
+        self.run.tally.foretold += u64::from(foretold.before > 0);
+        foretold.holds().or_else(|what| self.wrong(what))
     }
 
     fn answer(&mut self, call: &Call) -> Answer {

@@ -48,15 +48,17 @@ fn formatted(layer: &dyn Layer, shape: &Shape) -> Before {
     before
 }
 
-/// A whole day, with cuts in the create and in every call, or in the last call alone. Gives what
-/// was recorded.
+/// What a layer has made of a day: what was recorded, and what it foretold after each call.
+type Made = (Vec<Event>, Vec<u32>);
+
+/// A whole day, with cuts in the create and in every call, or in the last call alone.
 fn whole(
     run: &mut Run,
     layer: &dyn Layer,
     day: &Day,
     last: bool,
     effort: Effort,
-) -> Result<Vec<Event>, Wrong> {
+) -> Result<Made, Wrong> {
     let before = match day.begin {
         Begin::Created => before(layer, &day.shape),
         Begin::Formatted => formatted(layer, &day.shape),
@@ -70,7 +72,7 @@ fn whole(
         trial.call(call, !last || i + 1 == day.calls.len())?;
     }
     let events = trial.record().borrow().events().to_vec();
-    Ok(events)
+    Ok((events, trial.foretold().to_vec()))
 }
 
 /// All days of up to so many letters. Cuts come in the last call alone: those in the calls before
@@ -94,12 +96,7 @@ pub fn short(
 }
 
 /// The long day of a seed.
-pub fn long(
-    run: &mut Run,
-    layer: &dyn Layer,
-    seed: u64,
-    effort: Effort,
-) -> Result<Vec<Event>, Wrong> {
+pub fn long(run: &mut Run, layer: &dyn Layer, seed: u64, effort: Effort) -> Result<Made, Wrong> {
     run.forget();
     whole(run, layer, &day::long(seed), false, effort)
 }
@@ -218,7 +215,7 @@ pub struct Both {
     seed: u64,
     pub rust: Run,
     pub c: Run,
-    /// Long days of which both layers have recorded the same, and seeds of others.
+    /// Long days of which both layers have recorded and foretold the same, and seeds of others.
     pub alike: u64,
     pub unlike: Vec<u64>,
 }
@@ -280,8 +277,9 @@ fn short_days(run: &mut Run, layer: &dyn Layer, longest: usize) -> Result<(), Wr
     short(run, layer, &EMPTIED, longest + 1, &widest, Formatted, SHORT)
 }
 
-/// Both layers bring the same writes and flushes to the drive. Only a file takes a length.
-fn same(rust: &[Event], c: &[Event]) -> bool {
+/// Both layers bring the same writes and flushes to the drive, and foretell the same. Only a file
+/// takes a length.
+fn same((rust, rust_foretold): &Made, (c, c_foretold): &Made) -> bool {
     let c = c.iter().filter(|event| !matches!(event, Event::Length(_)));
-    rust.iter().eq(c)
+    rust.iter().eq(c) && rust_foretold == c_foretold
 }

@@ -58,6 +58,15 @@ pub struct Present {
     pub count: u32,
 }
 
+/// What forecast answers.
+#[repr(C)]
+pub struct Foretold {
+    /// 0, or the number of the question that was answered "no".
+    pub refusal: u32,
+    /// The advances until the pending snapshot is safe; refused, 0.
+    pub advances: u32,
+}
+
 /// What page-out and advance answer.
 #[repr(C)]
 pub struct Report {
@@ -85,6 +94,8 @@ const _: () = {
     assert!(offset_of!(Record, current) == 1712);
     assert!(size_of::<Present>() == 8);
     assert!(offset_of!(Present, count) == 4);
+    assert!(size_of::<Foretold>() == 8);
+    assert!(offset_of!(Foretold, advances) == 4);
     assert!(size_of::<Report>() == 16);
     assert!(offset_of!(Report, refusal) == 4);
     assert!(offset_of!(Report, block) == 8);
@@ -177,4 +188,12 @@ extern "C" {
         memory: *const u8,
         memory_len: usize,
     ) -> Report;
+    /// How many advances are left until the pending snapshot is safe.
+    pub fn lane_forecast(
+        s: *const Record,
+        card: *const u8,
+        card_len: usize,
+        memory: *const u8,
+        memory_len: usize,
+    ) -> Foretold;
 }

@@ -6,7 +6,7 @@
 //! A controller formats a card once. After every power-up it starts, and then lends the card and
 //! its memory to each call of the [`Store`]. A snapshot marks all pages and counts; it is kept,
 //! whatever cut comes, once [`Store::advance`] has written the header and asked for the flush after
-//! it.
+//! it. [`Store::forecast`] tells how many advances that takes.
 //!
 //! ```
 //! use lane::{format, Range, Refusal, Report, Store, BLOCK};

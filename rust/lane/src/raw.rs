@@ -5,8 +5,8 @@
 //! which `&mut` gives.
 
 use crate::c::{
-    lane_advance, lane_format, lane_key, lane_page_out, lane_read, lane_rescind, lane_snapshot,
-    lane_start, lane_version, lane_write, Present, Record, Report,
+    lane_advance, lane_forecast, lane_format, lane_key, lane_page_out, lane_read, lane_rescind,
+    lane_snapshot, lane_start, lane_version, lane_write, Foretold, Present, Record, Report,
 };
 use crate::Key;
 
@@ -156,6 +156,19 @@ pub(crate) fn advance(record: &mut Record, card: &mut [u8], memory: &[u8]) -> Re
         lane_advance(
             record,
             card.as_mut_ptr(),
+            card.len(),
+            memory.as_ptr(),
+            memory.len(),
+        )
+    }
+}
+
+pub(crate) fn forecast(record: &Record, card: &[u8], memory: &[u8]) -> Foretold {
+    // SAFETY: a record and two slices, all to read.
+    unsafe {
+        lane_forecast(
+            record,
+            card.as_ptr(),
             card.len(),
             memory.as_ptr(),
             memory.len(),

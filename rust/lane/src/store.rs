@@ -137,6 +137,43 @@ impl Store {
     pub fn advance(&mut self, card: &mut [u8], memory: &[u8]) -> Result<Report, Refusal> {
         Report::of(raw::advance(&mut self.record, card, memory))
     }
+
+    /// Gives how many advances are left until the pending snapshot is safe: up to and with the flush
+    /// after its header, each flush counted. With none pending it is 1 while the flush after a start
+    /// or a header write is due, else 0.
+    ///
+    /// Each advance takes one off while it is above 0, and so does a page-out of a pending frame; the
+    /// last but one is [`Report::H`], the last [`Report::F`]. Keys, reads, writes, rescinds and
+    /// refused calls leave it as it is.
+    ///
+    /// ```
+    /// # use lane::{format, Range, Refusal, Report, Store, BLOCK};
+    /// # fn main() -> Result<(), Refusal> {
+    /// # let (mut card, mut memory) = ([0; 11 * BLOCK], [0; 4 * BLOCK]);
+    /// # format(&mut card, 8, &[Range { first: 100, pages: 1 }])?;
+    /// # let mut store = Store::start(&card, &memory)?;
+    /// # let key = store.key(&card, &memory, 100)?;
+    /// store.write(&card, &mut memory, key, 0, b"paid")?;
+    /// store.snapshot(&card, &memory)?;
+    /// assert_eq!(store.forecast(&card, &memory)?, 8);
+    /// let mut reports = Vec::new();
+    /// while store.forecast(&card, &memory)? > 0 {
+    ///     reports.push(store.advance(&mut card, &memory)?);
+    /// }
+    /// assert_eq!(reports.len(), 8);
+    /// assert_eq!(reports[6..], [Report::H(0), Report::F(0)]); // no cut takes it away
+    /// # Ok(())
+    /// # }
+    /// ```
+    ///
+    /// # Errors
+    ///
+    /// [`Memory`](Refusal::Memory) 1, [`Record`](Refusal::Record) 2, [`Card`](Refusal::Card) 3.
+    pub fn forecast(&self, card: &[u8], memory: &[u8]) -> Result<u32, Refusal> {
+        let foretold = raw::forecast(&self.record, card, memory);
+        Refusal::done(foretold.refusal)?;
+        Ok(foretold.advances)
+    }
 }
 
 impl fmt::Debug for Store {

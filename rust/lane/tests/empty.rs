@@ -1,5 +1,5 @@
-//! Empty pages stay out of home (document 02, #104): what advance reports and a start shows, on cards
-//! that were formatted over any bytes.
+//! Empty pages stay out of home (document 02, #104): what advance reports, a forecast tells and a
+//! start shows, on cards that were formatted over any bytes.
 
 use lane::{format, Key, Range, Refusal, Report, Store, BLOCK};
 
@@ -69,6 +69,10 @@ impl Lane {
         }
     }
 
+    fn forecast(&self) -> u32 {
+        self.store.forecast(&self.card, &self.memory).unwrap()
+    }
+
     fn start(&mut self) {
         self.store = Store::start(&self.card, &self.memory).unwrap();
     }
@@ -124,6 +128,23 @@ fn a_page_that_was_passed_over_is_written_anew() {
     assert_eq!(lane.home(0), [8, 0]);
     lane.start();
     assert_eq!(lane.page(0), (1, 8));
+}
+
+/// What is foretold are the writes that are made: F, P, D, T, M of the pot, F, H, F.
+#[test]
+fn a_page_that_is_passed_over_is_not_foretold() {
+    let mut lane = Lane::new(8);
+    lane.write(0, 7);
+    lane.rescind(0);
+    lane.snapshot();
+    assert_eq!(lane.forecast(), 8);
+    while lane.store.advance(&mut lane.card, &lane.memory) != Ok(Report::H(0)) {}
+    assert_eq!(lane.forecast(), 1);
+    lane.rescind(0);
+    lane.snapshot();
+    assert_eq!(lane.forecast(), 8);
+    assert_eq!(lane.settle(), "F 0, P 5, D 6, T 7, M 9, F 0, H 0, F 0, M 9");
+    assert_eq!(lane.forecast(), 0);
 }
 
 /// A rescind wipes nothing: what went home stays there behind the flag.

@@ -216,6 +216,60 @@ fn advances_are_told_one_by_one() {
     lane.commit().unwrap();
 }
 
+#[test]
+fn advances_are_foretold() {
+    let lane = Options::new().create_on(Recorder::zeros(11), 8, &pages(1));
+    let mut lane = lane.unwrap();
+    put(&mut lane, FIRST, 7).unwrap();
+    assert_eq!(lane.forecast().unwrap(), 0);
+    lane.snapshot().unwrap();
+    for left in (1..=7).rev() {
+        assert_eq!(lane.forecast().unwrap(), left);
+        put(&mut lane, FIRST, 8).unwrap();
+        assert_eq!(byte(&lane, FIRST), 8);
+        assert_eq!(lane.forecast().unwrap(), left);
+        lane.advance().unwrap();
+    }
+    while lane.advance().unwrap().is_some() {
+        assert_eq!(lane.forecast().unwrap(), 0);
+    }
+}
+
+/// The blocks that were written and the flushes.
+fn made(drive: &Recorder) -> usize {
+    let made = drive.events().iter().map(|event| match event {
+        Event::Write { bytes, .. } => bytes.len() / BLOCK,
+        Event::Flush => 1,
+    });
+    made.sum()
+}
+
+/// The second finds pot and page of the first on their way home, the third an empty page, which stays
+/// out.
+#[test]
+fn finish_makes_as_many_as_are_foretold() {
+    let lane = Options::new().create_on(Recorder::zeros(1 + 12 + 3), 12, &pages(2));
+    let mut lane = lane.unwrap();
+    let mut finish = |oid, empty, foretold| {
+        put(&mut lane, oid, 7).unwrap();
+        if empty {
+            lane.rescind(lane.key(oid).unwrap()).unwrap();
+        }
+        lane.snapshot().unwrap();
+        assert_eq!(lane.forecast().unwrap(), foretold);
+        let before = made(lane.drive());
+        lane.finish().unwrap();
+        assert_eq!(made(lane.drive()) - before, foretold as usize);
+        assert_eq!(lane.forecast().unwrap(), 0);
+    };
+    // P, P, D, T, F, H, F.
+    finish(FIRST, false, 7);
+    // P, P, D, T, M, M, F, H, F.
+    finish(FIRST + 1, true, 9);
+    // P, D, T, M, F, H, F.
+    finish(FIRST, false, 7);
+}
+
 /// Writes n pages, far more than half the area of 8 has room for.
 fn fill(room: Room) -> Vec<u32> {
     let mut options = Options::new();
@@ -262,7 +316,9 @@ fn a_pending_snapshot_is_finished_where_the_area_is_full() {
     lane.commit().unwrap();
     put(&mut lane, FIRST, 2).unwrap();
     lane.snapshot().unwrap();
+    assert_eq!(lane.forecast().unwrap(), 8);
     put(&mut lane, FIRST, 3).unwrap();
+    assert_eq!(lane.forecast().unwrap(), 0);
     assert_eq!(byte(&lane, FIRST), 3);
     let bytes = lane.into_drive().bytes().to_vec();
     let lane = Options::new().open_on(Recorder::new(bytes)).unwrap();
@@ -317,6 +373,7 @@ fn all_refused(lane: &mut Lane<Recorder>, key: Key) {
     assert!(stopped(lane.rescind(key)));
     assert!(stopped(lane.snapshot()));
     assert!(stopped(lane.finish()));
+    assert!(stopped(lane.forecast().map(|_| ())));
     assert!(stopped(lane.commit()));
     assert!(stopped(lane.advance().map(|_| ())));
     assert!(stopped(lane.settle()));

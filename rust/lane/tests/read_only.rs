@@ -1,5 +1,5 @@
-//! Key and read from a record that cannot be written: `&self`, and `const` in C, are true of the
-//! machine code too. Whatever a call writes there ends the test by a signal.
+//! Key, read and forecast from a record that cannot be written: `&self`, and `const` in C, are true
+//! of the machine code too. Whatever a call writes there ends the test by a signal.
 
 use lane::{format, Key, Range, Refusal, Report, Store, BLOCK};
 use std::ffi::{c_int, c_void};
@@ -30,7 +30,7 @@ extern "C" {
     fn read(file: c_int, bytes: *mut c_void, length: usize) -> isize;
 }
 
-/// All that key and read are lent, but the buffer.
+/// All that key, read and forecast are lent, but the buffer.
 struct Lane {
     store: Store,
     card: [u8; BLOCKS * BLOCK],
@@ -72,7 +72,15 @@ impl Lane {
             .map(|()| buffer)
     }
 
-    fn answers(&self, pages: &[Page]) {
+    fn forecast(&self) -> Result<u32, Refusal> {
+        self.store.forecast(&self.card, &self.memory)
+    }
+
+    fn answers(&self, pages: &[Page], left: u32) {
+        assert_eq!(self.forecast(), Ok(left));
+        let short = &self.memory[BLOCK..];
+        let foretold = self.store.forecast(&self.card, short);
+        assert_eq!(foretold, Err(Refusal::Memory));
         for (oid, page) in (FIRST..).zip(pages) {
             let key = self.key(oid).unwrap();
             assert_eq!(key.count, page.count);
@@ -113,15 +121,16 @@ impl Mapped {
         unsafe { &mut *self.0 }
     }
 
-    /// Key and read, on two threads beside each other, while nothing of the lane can be written.
-    fn answers(&self, pages: &[Page]) {
+    /// Key, read and forecast, on two threads beside each other, while nothing of the lane can be
+    /// written.
+    fn answers(&self, pages: &[Page], left: u32) {
         self.protect(PROT_READ);
         self.refuses_a_write();
         // SAFETY: the mapping holds a lane, and nothing changes it until it is unprotected.
         let lane = unsafe { &*self.0 };
         thread::scope(|threads| {
             for _ in 0..2 {
-                threads.spawn(|| lane.answers(pages));
+                threads.spawn(|| lane.answers(pages, left));
             }
         });
         self.protect(PROT_READ | PROT_WRITE);
@@ -136,13 +145,18 @@ impl Mapped {
     }
 }
 
-/// A lane and what its pages hold, looked at after each change.
+/// A lane, what its pages hold and what is foretold, looked at after each change.
 struct Day {
     lane: Mapped,
     pages: [Page; PAGES],
+    left: u32,
 }
 
 impl Day {
+    fn look(&self) {
+        self.lane.answers(&self.pages, self.left);
+    }
+
     fn write(&mut self, page: usize, fill: u8) {
         let oid = FIRST + page as u32;
         let count = self.pages[page].count;
@@ -153,7 +167,7 @@ impl Day {
             .write(card, memory, Key { oid, count }, 0, &[fill; BLOCK]);
         assert_eq!(done, Ok(()));
         self.pages[page].fill = fill;
-        self.lane.answers(&self.pages);
+        self.look();
     }
 
     fn rescind(&mut self, page: usize) {
@@ -167,27 +181,29 @@ impl Day {
             count: count + 1,
             fill: 0,
         };
-        self.lane.answers(&self.pages);
+        self.look();
     }
 
     fn page_out(&mut self) {
         let lane = self.lane.change();
         let done = lane.store.page_out(&mut lane.card, &lane.memory);
         assert!(matches!(done, Ok(Report::P(_))));
-        self.lane.answers(&self.pages);
+        self.look();
     }
 
     fn snapshot(&mut self) {
         let lane = self.lane.change();
         assert_eq!(lane.store.snapshot(&lane.card, &lane.memory), Ok(()));
-        self.lane.answers(&self.pages);
+        self.left = lane.forecast().unwrap();
+        self.look();
     }
 
-    /// Whether a write or a flush was due.
+    /// Whether a write or a flush was due. It is one that was foretold, as long as one was.
     fn advance(&mut self) -> bool {
         let lane = self.lane.change();
         let done = lane.store.advance(&mut lane.card, &lane.memory);
-        self.lane.answers(&self.pages);
+        self.left = self.left.saturating_sub(1);
+        self.look();
         match done {
             Ok(_) => true,
             Err(refusal) => {
@@ -198,12 +214,14 @@ impl Day {
     }
 }
 
-/// Pages are read at home, committed, pending and current, waiting and written, and empty.
+/// Pages are read at home, committed, pending and current, waiting and written, and empty. The flush
+/// after the start is foretold first.
 #[test]
-fn key_and_read_write_nothing_but_the_buffer() {
+fn key_read_and_forecast_write_nothing_but_the_buffer() {
     let mut day = Day {
         lane: Mapped::new(Lane::new()),
         pages: [Page { count: 0, fill: 0 }; PAGES],
+        left: 1,
     };
     for (page, fill) in [(0, 1), (1, 2), (2, 3)] {
         day.write(page, fill);

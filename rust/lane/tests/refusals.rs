@@ -47,6 +47,10 @@ impl Lane {
     fn advance(&mut self) -> Result<Report, Refusal> {
         self.store.advance(&mut self.card, &self.memory)
     }
+
+    fn forecast(&self) -> Result<u32, Refusal> {
+        self.store.forecast(&self.card, &self.memory)
+    }
 }
 
 #[test]
@@ -85,8 +89,11 @@ fn card_and_memory_are_as_long_as_at_start() {
     let lane = Lane::new();
     let short = &lane.card[512..];
     assert_eq!(lane.store.key(short, &lane.memory, 100), Err(Refusal::Card));
+    let foretold = lane.store.forecast(short, &lane.memory);
+    assert_eq!(foretold, Err(Refusal::Card));
     let long = vec![0; 5 * 512];
     assert_eq!(lane.store.key(&lane.card, &long, 100), Err(Refusal::Memory));
+    assert_eq!(lane.store.forecast(short, &long), Err(Refusal::Memory));
 }
 
 #[test]
@@ -156,6 +163,32 @@ fn every_write_is_reported_until_none_is_due() {
     ];
     assert_eq!(reports, all);
     assert_eq!(lane.advance(), Err(Refusal::NothingDue));
+}
+
+/// Whatever else is called, done or refused, leaves what is foretold.
+#[test]
+fn every_advance_of_a_commit_is_foretold() {
+    let mut lane = Lane::new();
+    let key = lane.key(100);
+    assert_eq!(lane.forecast(), Ok(1));
+    lane.write(key, 0, &[7]).unwrap();
+    assert_eq!(lane.forecast(), Ok(1));
+    lane.snapshot().unwrap();
+    let all = ["F 0", "P 1", "P 2", "D 3", "T 4", "F 0", "H 0", "F 0"];
+    for (left, report) in (1..=8).rev().zip(all) {
+        assert_eq!(lane.forecast(), Ok(left));
+        lane.write(key, 0, &[left as u8]).unwrap();
+        lane.read(key, &mut [0; 512]).unwrap();
+        assert_eq!(lane.read(key, &mut []), Err(Refusal::Length));
+        assert_eq!(lane.forecast(), Ok(left));
+        assert_eq!(lane.advance().unwrap().to_string(), report);
+    }
+    for home in [9, 10] {
+        assert_eq!(lane.forecast(), Ok(0));
+        assert_eq!(lane.advance(), Ok(Report::M(home)));
+    }
+    assert_eq!(lane.advance(), Err(Refusal::NothingDue));
+    assert_eq!(lane.forecast(), Ok(0));
 }
 
 #[test]

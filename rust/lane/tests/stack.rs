@@ -2,8 +2,8 @@
 //! less than 16 KiB. With `--nocapture` the figures are printed.
 
 use lane::c::{
-    lane_advance, lane_format, lane_key, lane_page_out, lane_read, lane_rescind, lane_snapshot,
-    lane_start, lane_version, lane_write, Record, Report,
+    lane_advance, lane_forecast, lane_format, lane_key, lane_page_out, lane_read, lane_rescind,
+    lane_snapshot, lane_start, lane_version, lane_write, Record, Report,
 };
 use lane::{Refusal, BLOCK};
 use std::arch::asm;
@@ -152,7 +152,9 @@ impl Lane {
         assert_eq!(call!(self, lane_snapshot), 0);
     }
 
+    /// An advance, with a forecast before it.
     fn advance(&mut self) -> Report {
+        assert_eq!(call!(self, lane_forecast).refusal, 0);
         call!(self, lane_advance)
     }
 

@@ -199,6 +199,16 @@ impl Model {
         self.store.as_ref()?.due(&self.passed_over())
     }
 
+    /// How many advances until the pending snapshot is safe; with none pending,
+    /// until a flush that is owed is made. It changes nothing.
+    pub fn forecast(&self, lent: Lent) -> Result<usize, Refusal> {
+        let store = self.asked(lent)?;
+        Ok(match &store.pending {
+            Some(pending) => store.until_safe(pending, &self.passed_over()),
+            None => store.owed(),
+        })
+    }
+
     /// Done, it says the kind and the block it wrote, 0 for a flush.
     pub fn advance(&mut self, lent: Lent) -> Result<(Kind, usize), Refusal> {
         self.advance_past(lent, &self.passed_over())

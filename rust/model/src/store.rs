@@ -174,6 +174,26 @@ impl Store {
         }
     }
 
+    /// 1 while the flush after a header write or a start is due.
+    pub fn owed(&self) -> usize {
+        usize::from(self.phase == Phase::Owed)
+    }
+
+    /// The advances until a pending snapshot is safe, with these frames passed
+    /// over by M: a flush that is owed; waiting frames, directory blocks and a
+    /// trailer that are not down; M writes left; the flush before the header,
+    /// if it is not made; the header; the flush after it.
+    pub fn until_safe(&self, pending: &Pending, over: &[usize]) -> usize {
+        let waiting = pending.changes.waiting.len();
+        let directory = directory_blocks(pending.changes.e()) - pending.directory_down;
+        let trailer = usize::from(!pending.trailer_down);
+        let committed = self.committed.as_ref();
+        let migration = committed.map_or(0, |committed| committed.left(over));
+        let before = usize::from(self.phase != Phase::Flushed);
+        let (header, after) = (1, 1);
+        self.owed() + waiting + directory + trailer + migration + before + header + after
+    }
+
     /// Writes no block. After the flush that was owed all else may go on; any
     /// other is the one before a header write, when migration is over.
     fn flush(&mut self, over: &[usize]) -> usize {

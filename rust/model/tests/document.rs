@@ -1,49 +1,20 @@
 //! Document 01's lane tables, the whole run with document 02's flushes, where
 //! a flush is due, and which pages stay out of home, shown of the model.
 
+mod common;
+
+use common::{advance_up_to, commit_up_to, small, with_area, FILLER};
 use model::blocks::{get, number};
 use model::generation::size;
 use model::geometry::BLOCK;
 use model::Kind::{D, F, H, M, P, T};
 use model::{Geometry, Kind, Lent, Model, Range};
 
-/// What each byte of a card is before its format.
-const FILLER: u8 = 0xA5;
-
-/// A 8, one range of the given pages from OID 100 on, memory of 4 frames.
-fn small(pages: u32) -> (Model, Lent) {
-    with_area(8, pages)
-}
-
-fn with_area(area: usize, pages: u32) -> (Model, Lent) {
-    let range = Range { first: 100, pages };
-    let card = (1 + area + range.blocks()) * BLOCK;
-    let lent = Lent {
-        card,
-        memory: 4 * BLOCK,
-    };
-    let mut model = Model::new(vec![FILLER; card]);
-    assert_eq!(model.format(card, area, &[100, pages]), Ok(()));
-    assert_eq!(model.start(lent), Ok(()));
-    (model, lent)
-}
-
 /// The advances until one is refused, which is 20.
 fn advances(model: &mut Model, lent: Lent) -> Vec<(Kind, usize)> {
     let run = std::iter::from_fn(|| model.advance(lent).ok()).collect();
     assert_eq!(model.advance(lent), Err(20));
     run
-}
-
-/// Page 100 written, a snapshot, and advances up to that kind.
-fn commit_up_to(kind: Kind, model: &mut Model, lent: Lent) {
-    assert_eq!(model.write(lent, 100, 0, 0, &[7]), Ok(()));
-    assert_eq!(model.snapshot(lent), Ok(()));
-    advance_up_to(kind, model, lent);
-}
-
-fn advance_up_to(kind: Kind, model: &mut Model, lent: Lent) {
-    while model.advance(lent).expect("an advance is due").0 != kind {}
 }
 
 /// How many committed entries are home or passed over.
@@ -330,5 +301,6 @@ fn record_of_zeros_answers_1() {
     let short = Lent { memory: 0, ..lent };
     assert_eq!(model.start(short), Err(1));
     assert_eq!(model.key(lent, 100), Err(1));
+    assert_eq!(model.forecast(lent), Err(1));
     assert_eq!(model.advance(short), Err(1));
 }

@@ -37,11 +37,13 @@ pub enum Call {
     Snapshot,
     PageOut,
     Advance,
+    Forecast,
 }
 
 /// The calls' names, in the order of `Call::row`.
-pub const NAMES: [&str; 9] = [
+pub const NAMES: [&str; 10] = [
     "format", "start", "key", "read", "write", "rescind", "snapshot", "page-out", "advance",
+    "forecast",
 ];
 
 impl Call {
@@ -60,6 +62,7 @@ impl Call {
             Call::Snapshot => 6,
             Call::PageOut => 7,
             Call::Advance => 8,
+            Call::Forecast => 9,
         }
     }
 
@@ -95,7 +98,7 @@ impl Call {
     /// Does it change the record, if it is done? Format is lent none.
     pub fn changes_record(&self) -> bool {
         match self {
-            Call::Format { .. } | Call::Key { .. } | Call::Read { .. } => false,
+            Call::Format { .. } | Call::Key { .. } | Call::Read { .. } | Call::Forecast => false,
             Call::Write { length, .. } => *length > 0,
             Call::Start | Call::Rescind { .. } => true,
             Call::Snapshot | Call::PageOut | Call::Advance => true,
@@ -147,6 +150,8 @@ pub enum Answer {
     Done,
     Count(u32),
     Wrote(Kind, usize),
+    /// Advances until a snapshot is safe.
+    Foretold(usize),
     /// Nothing the interface knows, such as a seventh kind.
     Strange,
 }
@@ -173,6 +178,7 @@ impl fmt::Display for Answer {
             Answer::Done => write!(f, "done"),
             Answer::Count(count) => write!(f, "count {count}"),
             Answer::Wrote(kind, block) => write!(f, "{kind:?} {block}"),
+            Answer::Foretold(advances) => write!(f, "{advances} to come"),
             Answer::Strange => write!(f, "nothing the interface knows"),
         }
     }

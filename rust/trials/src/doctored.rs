@@ -210,5 +210,6 @@ pub fn calls_on(oid: u32, count: u32) -> Vec<Call> {
         Call::Snapshot,
         Call::PageOut,
         Call::Advance,
+        Call::Forecast,
     ]
 }

@@ -4,8 +4,8 @@
 
 use crate::call::{Answer, Call};
 use lane::c::{
-    lane_advance, lane_format, lane_key, lane_page_out, lane_read, lane_rescind, lane_snapshot,
-    lane_start, lane_write, Present, Report,
+    lane_advance, lane_forecast, lane_format, lane_key, lane_page_out, lane_read, lane_rescind,
+    lane_snapshot, lane_start, lane_write, Foretold, Present, Report,
 };
 use model::Kind;
 
@@ -71,6 +71,7 @@ impl Library for Linked {
                 Call::Snapshot => numbered(lane_snapshot(s, card, n, memory, m)),
                 Call::PageOut => reported(lane_page_out(s, card, n, memory, m)),
                 Call::Advance => reported(lane_advance(s, card, n, memory, m)),
+                Call::Forecast => foretold(lane_forecast(s, card, n, memory, m)),
             }
         }
     }
@@ -87,6 +88,15 @@ fn numbered(number: u32) -> Answer {
 fn counted(present: Present) -> Answer {
     match (present.refusal, present.count) {
         (0, count) => Answer::Count(count),
+        (refusal, 0) => Answer::Refused(refusal),
+        _ => Answer::Strange,
+    }
+}
+
+/// A refused forecast has no advances.
+fn foretold(foretold: Foretold) -> Answer {
+    match (foretold.refusal, foretold.advances) {
+        (0, advances) => Answer::Foretold(advances as usize),
         (refusal, 0) => Answer::Refused(refusal),
         _ => Answer::Strange,
     }

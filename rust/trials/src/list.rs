@@ -184,7 +184,9 @@ impl fmt::Display for Call {
                 "{name} {oid} count present+{count} at {at} length {length} fill {fill:#x}"
             ),
             Call::Rescind { oid, count } => write!(f, "{name} {oid} count present+{count}"),
-            Call::Start | Call::Snapshot | Call::PageOut | Call::Advance => write!(f, "{name}"),
+            Call::Start | Call::Snapshot | Call::PageOut | Call::Advance | Call::Forecast => {
+                write!(f, "{name}")
+            }
         }
     }
 }

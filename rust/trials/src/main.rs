@@ -8,6 +8,8 @@ mod directories;
 mod doctored;
 mod drive;
 mod empties;
+mod forecasts;
+mod foretold;
 mod library;
 mod limits;
 mod list;
@@ -122,6 +124,7 @@ fn print_summary(options: &Options, lists: &Tally, doctored: &Tally, begun: Inst
     let (limits, cuts) = (lists.limits.table(), lists.cuts.table());
     let (directories, empties) = (lists.directories.table(), lists.empties.lists_table());
     print!("{}{limits}{cuts}{directories}{empties}", lists.table());
+    print!("{}", lists.forecasts.lists_table());
     println!(
         "{} doctored records, {} sentences of question 2 broken, {} doctored cards, \
          {} calls on them",
@@ -131,7 +134,8 @@ fn print_summary(options: &Options, lists: &Tally, doctored: &Tally, begun: Inst
         doctored.calls()
     );
     let empties = doctored.empties.doctored_table();
-    print!("{}{empties}", doctored.table());
+    let forecasts = doctored.forecasts.doctored_table();
+    print!("{}{empties}{forecasts}", doctored.table());
     println!("{:.1} s", begun.elapsed().as_secs_f64());
 }
 

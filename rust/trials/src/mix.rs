@@ -13,27 +13,27 @@ use model::geometry::BLOCK;
 use model::Geometry;
 
 /// How likely each call is: key, read, write, rescind, snapshot, page-out,
-/// advance.
-type Weights = [usize; 7];
+/// advance, forecast.
+type Weights = [usize; 8];
 
 const WEIGHTS: [Weights; 7] = [
     // A steady gate.
-    [4, 14, 34, 8, 6, 8, 26],
+    [4, 14, 34, 8, 6, 8, 26, 3],
     // Much is changed, little is committed: full directories and memory.
-    [2, 8, 56, 10, 2, 18, 4],
+    [2, 8, 56, 10, 2, 18, 4, 2],
     // Many commits.
-    [2, 8, 22, 6, 12, 4, 46],
+    [2, 8, 22, 6, 12, 4, 46, 4],
     // A snapshot waits long while its frames change again.
-    [3, 12, 44, 14, 9, 10, 8],
+    [3, 12, 44, 14, 9, 10, 8, 4],
     // Keys are rescinded all the time.
-    [6, 14, 18, 30, 6, 8, 18],
+    [6, 14, 18, 30, 6, 8, 18, 3],
     // Memory is paged out as soon as it fills.
-    [2, 8, 36, 6, 5, 32, 11],
+    [2, 8, 36, 6, 5, 32, 11, 3],
     FILLING,
 ];
 
 /// Hundreds of changes before a snapshot.
-const FILLING: Weights = [1, 4, 56, 3, 0, 36, 0];
+const FILLING: Weights = [1, 4, 56, 3, 0, 36, 0, 1];
 
 /// What a list is drawn from.
 pub struct Mix {
@@ -277,7 +277,8 @@ impl Mix {
             3 => Call::Rescind { oid, count },
             4 => Call::Snapshot,
             5 => Call::PageOut,
-            _ => Call::Advance,
+            6 => Call::Advance,
+            _ => Call::Forecast,
         }
     }
 

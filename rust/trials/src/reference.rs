@@ -17,6 +17,12 @@ pub trait Reference {
     fn make(&mut self, call: &Call, lent: Lent, bytes: &[u8]) -> Reply;
 
     fn model(&mut self) -> &mut Model;
+
+    /// Is what it foretells held to the advances that follow? Without, the book
+    /// alone is left.
+    fn foretells(&self) -> bool {
+        true
+    }
 }
 
 impl Reference for Model {
@@ -39,6 +45,7 @@ impl Reference for Model {
                 Answer::Wrote(Kind::P, block)
             }),
             Call::Advance => return advanced(self.advance(lent)),
+            Call::Forecast => self.forecast(lent).map(Answer::Foretold),
         };
         Reply {
             answer: answer.unwrap_or_else(Answer::Refused),

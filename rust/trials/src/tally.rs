@@ -5,12 +5,13 @@ use crate::cuts::Cuts;
 use crate::directories::Directories;
 use crate::doctored::broken::sentences;
 use crate::empties::Empties;
+use crate::forecasts::Forecasts;
 use crate::limits::Limits;
 use model::Kind;
 use std::collections::BTreeSet;
 
 /// The numbers each call can answer, in the order of `Call::row`.
-const POSSIBLE: [&[u32]; 9] = [
+const POSSIBLE: [&[u32]; 10] = [
     &[0, 3, 5],
     &[0, 1, 3, 4, 5, 6, 7, 8],
     &[0, 1, 2, 3, 9],
@@ -20,6 +21,7 @@ const POSSIBLE: [&[u32]; 9] = [
     &[0, 1, 2, 3, 16, 17, 18],
     &[0, 1, 2, 3, 19, 28],
     &[0, 1, 2, 3, 20],
+    &[0, 1, 2, 3],
 ];
 
 const START: usize = 1;
@@ -31,7 +33,7 @@ fn needs_doctoring(row: usize, number: u32) -> bool {
 
 #[derive(Clone, Default)]
 pub struct Tally {
-    answers: [[u64; 29]; 9],
+    answers: [[u64; 29]; 10],
     kinds: [u64; 6],
     /// The most entries of a directory.
     pub fullest: usize,
@@ -40,6 +42,7 @@ pub struct Tally {
     pub limits: Limits,
     pub directories: Directories,
     pub empties: Empties,
+    pub forecasts: Forecasts,
     /// Blocks of the largest card that was started.
     largest: usize,
     /// The lengths of memory that were lent to a start, in frames.
@@ -93,6 +96,7 @@ impl Tally {
         self.limits.add(&other.limits);
         self.directories.add(&other.directories);
         self.empties.add(&other.empties);
+        self.forecasts.add(&other.forecasts);
         self.looks += other.looks;
         self.doctored_records += other.doctored_records;
         self.doctored_cards += other.doctored_cards;
@@ -117,16 +121,19 @@ impl Tally {
         missing.extend(self.directories.missing());
         missing.extend(self.cuts.missing());
         missing.extend(self.empties.missing_from_lists());
+        missing.extend(self.forecasts.missing_from_lists());
         missing
     }
 
     /// Numbers that only doctoring brings about and that did not come, sentences
-    /// that no record has broken, and empty pages that no card had.
+    /// that no record has broken, empty pages that no card had, and too few
+    /// forecasts.
     pub fn missing_from_doctored(&self) -> Vec<String> {
         let mut missing = self.missing(needs_doctoring);
         let whole = sentences().filter(|name| !self.broken.contains(name));
         missing.extend(whole.map(|name| format!("broken: {name}")));
         missing.extend(self.empties.missing_from_doctored());
+        missing.extend(self.forecasts.missing_from_doctored());
         missing
     }
 

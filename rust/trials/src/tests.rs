@@ -3,6 +3,7 @@
 
 mod careless;
 mod faulty;
+mod forecasts;
 mod runs;
 
 use crate::call::Call;
@@ -344,11 +345,13 @@ fn doctored_records_catch_an_order_not_asked_for() {
     }
 }
 
-/// With two entries swapped between calls the next one answers 2.
+/// With two entries swapped between calls the next one answers 2. Forecasts, which
+/// come between all others, would say so first.
 #[test]
 fn lists_catch_entries_out_of_order() {
     for directory in [COMMITTED, PENDING, CURRENT] {
-        let (on, at, slip) = (|_: &Call| true, 0, Slip::Swapped(directory));
+        let on = |call: &Call| *call != Call::Forecast;
+        let (at, slip) = (0, Slip::Swapped(directory));
         let mut failures = failures(Careless { on, at, slip });
         assert!(failures.any(|failure| failure.what.starts_with("answers 2, the model")));
     }
@@ -406,11 +409,20 @@ fn what_was_never_seen_is_told() {
     assert!(told("entry new to the current directory: front"));
     assert!(told("8 pages in falling order"));
     assert!(told("20 with only pages left that are passed over"));
+    assert!(told("forecast, none pending, a flush due: 1"));
+    assert!(told(
+        "forecast, of M only pages are left that are passed over"
+    ));
+    assert!(told("write done amid a commit"));
+    assert!(told("snapshot refused amid a commit"));
+    assert!(!told("snapshot done amid a commit"));
+    assert!(told("a commit counted down from 251 advances"));
     let missing = Tally::default().missing_from_doctored();
     let told = |what: &str| missing.iter().any(|one| one == what);
     assert!(told("broken: head"));
     assert!(told("broken: pending: entries swapped"));
     assert!(told("doctored: page passed over by its pot at home"));
+    assert!(told("5000 doctored records counted down"));
 }
 
 /// A refusal counts for a limit if nothing else is wrong.

@@ -5,6 +5,7 @@ use crate::call::{Answer, Buffer, Call};
 use crate::doctored::form::{self, Entry};
 use crate::drive::Drive;
 use crate::empties::{amid, Amid, Home};
+use crate::foretold::Foretold;
 use crate::library::{Library, Record, RECORD};
 use crate::limits::{told, FULL};
 use crate::list::Lending;
@@ -38,12 +39,15 @@ pub struct Trial<'t, L, R> {
     pub frames: usize,
     pub tally: &'t mut Tally,
     before: Before,
-    made: usize,
+    /// How many calls were made.
+    pub made: usize,
     /// The OIDs that any step has named: a page that was written and lost
     /// in a cut is among them.
     pub named: BTreeSet<u32>,
     pub drive: Drive,
     pub home: Home,
+    /// What is to follow, as long as that can be told.
+    pub foretold: Option<Foretold>,
 }
 
 /// Record and memory before a call. Of memory all that is lent is kept, and a
@@ -99,6 +103,7 @@ impl<'t, L: Library, R: Reference> Trial<'t, L, R> {
             named: BTreeSet::new(),
             drive: Drive::default(),
             home: Home::default(),
+            foretold: None,
         }
     }
 
@@ -142,6 +147,7 @@ impl<'t, L: Library, R: Reference> Trial<'t, L, R> {
         exchange.compare()?;
         self.compare_book(call, &exchange.answer, exchange.buffer.lent())?;
         self.compare_record(call, &exchange.answer)?;
+        self.hold_forecast(call, &exchange.answer)?;
         self.compare_memory(call, &exchange.answer, lent)?;
         self.note_sizes(call, &exchange.answer, lent);
         self.note_empties(call, &exchange.answer, amid);
@@ -202,6 +208,13 @@ impl<'t, L: Library, R: Reference> Trial<'t, L, R> {
             let directories = &mut self.tally.directories;
             directories.count_made(call, answer, before, store);
         }
+    }
+
+    /// A forecast beside the calls, as the library and the reference answer it.
+    pub fn forecast(&mut self, lent: Lent) -> [Answer; 2] {
+        let call = Call::Forecast;
+        let answer = self.library.make(&call, self.stock.lend(lent), &mut []);
+        [answer, self.reference.make(&call, lent, &[]).answer]
     }
 
     /// The reference goes first, so that the card still has the old block.

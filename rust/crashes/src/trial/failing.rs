@@ -31,7 +31,7 @@ impl Trial<'_> {
         self.point()
     }
 
-    /// Every call is refused, key and read too.
+    /// Every call is refused, key, read and forecast too.
     fn stopped(&mut self) -> Result<(), Wrong> {
         let write = Call::Write {
             page: 0,
@@ -62,9 +62,13 @@ impl Trial<'_> {
             lane.write(oid, 0, 0, &[1]),
             lane.rescind(oid, 0),
         ];
-        match answers.iter().all(|answer| *answer == Err(Fault::Stopped)) {
+        let foretold = lane.forecast();
+        let stopped = answers.iter().all(|answer| *answer == Err(Fault::Stopped));
+        match stopped && foretold == Err(Fault::Stopped) {
             true => Ok(()),
-            false => self.wrong(format!("the lane is stopped, and answers {answers:?}")),
+            false => self.wrong(format!(
+                "the lane is stopped, and answers {answers:?}, forecast {foretold:?}"
+            )),
         }
     }
 

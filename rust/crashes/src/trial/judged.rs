@@ -167,6 +167,8 @@ impl Trial<'_> {
             lane: Some(lane),
             told,
             walked,
+            from: walked,
+            foretold: Vec::new(),
             life: Life::Made,
             part: Part::Second,
         };

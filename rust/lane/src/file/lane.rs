@@ -164,6 +164,21 @@ impl<D: Drive> Lane<D> {
         Ok(())
     }
 
+    /// Gives how many block writes and flushes are left until the last snapshot is safe, for a
+    /// display: [`finish`](Lane::finish) makes exactly so many, [`advance`](Lane::advance) one of
+    /// them. 0 where none is pending, since an open has made its flush.
+    ///
+    /// A write or a rescind leaves the number as it is, unless it makes [`Room`]: what it makes then
+    /// may take from it, down to 0.
+    ///
+    /// # Errors
+    ///
+    /// [`Error::Stopped`].
+    pub fn forecast(&self) -> Result<u32, Error> {
+        self.live()?;
+        Ok(self.store.forecast(&self.card, &self.memory)?)
+    }
+
     /// Makes the next block write or flush, for idle time, and reports it; none if nothing is due.
     ///
     /// # Errors

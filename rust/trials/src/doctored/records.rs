@@ -5,6 +5,7 @@ use super::broken::{doctored, Doctored};
 use super::form::{put_size, MIGRATED};
 use super::{calls_on, in_state, Failed, State};
 use crate::call::{Answer, Call};
+use crate::foretold::Foretold;
 use crate::library::{Library, Record, RECORD};
 use crate::list::Lending;
 use crate::rng::Rng;
@@ -14,6 +15,10 @@ use crate::trial::Trial;
 use model::blocks::{get, put};
 use model::geometry::BLOCK;
 use model::{Kind, Lent, Model, Phase, Store};
+
+/// Of a thousand records that hold together, so many are advanced as far as they
+/// foretell.
+const COUNTED_DOWN: usize = 125;
 
 /// Doctors the record of a store in that state.
 pub fn doctor<L: Library>(
@@ -66,6 +71,7 @@ fn migrate_from_any<L: Library>(trial: &mut Trial<'_, L, Model>) -> Result<(), S
         let tried = migrate_from(migrated, trial);
         tried.map_err(|what| format!("from {migrated} migrated: {what}"))?;
         (trial.stock, trial.reference) = (stock.clone(), model.clone());
+        trial.foretold = None;
     }
     Ok(())
 }
@@ -80,6 +86,7 @@ fn migrate_from<L: Library>(
     migrated: usize,
     trial: &mut Trial<'_, L, Model>,
 ) -> Result<(), String> {
+    trial.foretold = None;
     put_size(&mut trial.stock.record, MIGRATED, migrated);
     let store = trial.reference.store.as_mut();
     if let Some(committed) = store.and_then(|store| store.committed.as_mut()) {
@@ -158,8 +165,9 @@ impl<L: Library> Doctor<'_, L> {
         tried.map_err(|what| format!("record byte {at} made {}: {what}", record.0[at]))
     }
 
-    /// Each call alone, then some in a row. Questions 1 to 3 are the same for
-    /// all these calls, so each answers them alike.
+    /// Each call alone, then some in a row; of some that hold together what is
+    /// foretold. Questions 1 to 3 are the same for all these calls, so each
+    /// answers them alike.
     fn try_calls(&mut self, record: &Record, rng: &mut Rng) -> Result<(), String> {
         let mut alike = None;
         for i in 0..self.calls.len() {
@@ -179,6 +187,9 @@ impl<L: Library> Doctor<'_, L> {
                 let name = self.calls[i].name();
                 return Err(format!("{name}: the record no longer holds"));
             }
+        }
+        if alike == Some(None) && rng.chance(COUNTED_DOWN) {
+            self.count_down(record)?;
         }
         Ok(())
     }
@@ -219,11 +230,34 @@ impl<L: Library> Doctor<'_, L> {
                 return Err(format!("{name}, at a limit that is kept: answers {number}"));
             }
         }
-        Ok(())
+        let counted = self.count_down(record);
+        counted.map_err(|what| format!("at a limit that is kept: {what}"))
+    }
+
+    /// What is foretold of a record that holds together must follow.
+    fn count_down(&mut self, record: &Record) -> Result<(), String> {
+        self.lend(record);
+        let mut foretold = None;
+        loop {
+            let Answer::Foretold(advances) = self.make(&Call::Forecast)? else {
+                return Err("forecast is refused".into());
+            };
+            let before = Foretold::told(foretold, advances)?;
+            if advances == 0 {
+                self.tally.forecasts.count_doctored(before);
+                return Ok(());
+            }
+            let answer = self.make(&Call::Advance)?;
+            foretold = before.after(&Call::Advance, &answer)?;
+        }
     }
 
     fn call(&mut self, i: usize) -> Result<Answer, String> {
-        let call = &self.calls[i];
+        let call = self.calls[i].clone();
+        self.make(&call)
+    }
+
+    fn make(&mut self, call: &Call) -> Result<Answer, String> {
         let lent = call.buffer();
         let mut buffer = lent;
         self.before.record = self.stock.record;

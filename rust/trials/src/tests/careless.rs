@@ -1,8 +1,8 @@
-//! The proved library with a slip: each time a call answers a certain number, or
-//! in the order of a directory.
+//! The proved library with a slip: each time a call answers a certain number, in
+//! the order of a directory, or in what is foretold of a record that no call made.
 
 use crate::call::{Answer, Call};
-use crate::doctored::form::{entry_at, put_entry, size_at, Directory, Entry};
+use crate::doctored::form::{entry_at, put_entry, size_at, Directory, Entry, PENDING};
 use crate::library::{Library, Linked, Loan, Record};
 
 #[derive(Clone, Copy)]
@@ -20,6 +20,8 @@ pub enum Slip {
     Swapped(Directory),
     /// Entries are taken in any order.
     AnyOrder(Directory),
+    /// A forecast is one more where two pending entries have one place.
+    OneMore,
 }
 
 pub struct Careless {
@@ -62,6 +64,7 @@ impl Library for Careless {
                     return Answer::Refused(number);
                 }
             }
+            Slip::OneMore => return one_more(answer, record),
             Slip::Swapped(_) | Slip::AnyOrder(_) => {}
         }
         answer
@@ -86,6 +89,17 @@ fn make_in_order(directory: Directory, call: &Call, loan: Loan<'_>, buffer: &mut
         *record = sorted;
     }
     answer
+}
+
+fn one_more(answer: Answer, record: &Record) -> Answer {
+    let count = size_at(record, PENDING.count);
+    let place = |i| entry_at(record, PENDING, i).1;
+    match answer {
+        Answer::Foretold(advances) if (1..count).any(|i| place(i - 1) == place(i)) => {
+            Answer::Foretold(advances + 1)
+        }
+        _ => answer,
+    }
 }
 
 fn sorted(record: &Record, directory: Directory) -> Record {

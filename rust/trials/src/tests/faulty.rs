@@ -1,9 +1,13 @@
 //! The model as a library, with one fault: of document 01's list, of document
-//! 02's flushes or empty pages, in the order of a directory, or at a limit.
+//! 02's flushes, empty pages or forecast, in the order of a directory, or at a
+//! limit.
 
 mod directory;
+mod forecast;
 mod limits;
 mod passing;
+
+pub use forecast::Miscount;
 
 use crate::call::{Answer, Call};
 use crate::empties::flag;
@@ -60,6 +64,7 @@ pub enum Fault {
     HeaderWaits,
     /// 20 does not come while only pages are left that are passed over.
     PassedReported,
+    Forecast(Miscount),
     /// The directory is written in order of first change.
     DirectoryUnsorted,
     /// Key and read do not find the first or the last entry of the current
@@ -85,6 +90,8 @@ pub struct Faulty {
     fault: Fault,
     /// What advance has done and not yet reported.
     unreported: VecDeque<(Kind, usize)>,
+    /// The forecast at the last snapshot.
+    foretold: usize,
 }
 
 impl Faulty {
@@ -93,6 +100,7 @@ impl Faulty {
             model: Model::new(Vec::new()),
             fault,
             unreported: VecDeque::new(),
+            foretold: 0,
         }
     }
 
@@ -283,6 +291,8 @@ impl Reference for Faulty {
             (Fault::CommitZero, Call::Start) => self.start_at_commit_0(lent),
             (Fault::NoFlushAfterStart, Call::Start) => self.owe_nothing(call, lent),
             (Fault::PageOutWhileOwed, Call::PageOut) => self.page_out_while_owed(lent),
+            (Fault::Forecast(miscount), Call::Forecast) => self.miscount(miscount, lent),
+            (Fault::Forecast(Miscount::Stale), Call::Snapshot) => self.snapshot_foretold(lent),
             (Fault::Limit { row, start: false }, Call::Format { .. })
             | (Fault::Limit { row, start: true }, Call::Start) => self.pass_limit(row, call, lent),
             (Fault::EntryLost, Call::Start) => self.lose_entry(lent),
@@ -296,6 +306,11 @@ impl Reference for Faulty {
 
     fn model(&mut self) -> &mut Model {
         &mut self.model
+    }
+
+    /// With a fault in its steps it foretells what does not come.
+    fn foretells(&self) -> bool {
+        self.steps_rightly()
     }
 }
 
@@ -316,7 +331,7 @@ impl Library for Faulty {
             self.unreported.clear();
         }
         let reply = Reference::make(self, call, lent, buffer);
-        let reads = matches!(call, Call::Key { .. } | Call::Read { .. });
+        let reads = matches!(call, Call::Key { .. } | Call::Read { .. } | Call::Forecast);
         if reply.answer.is_done() && !reads {
             loan.card.copy_from_slice(&self.model.card);
         } else if matches!(call, Call::Format { .. }) {
