@@ -1,9 +1,8 @@
 -- The forecast by the record's numbers.
 -- Assumes nothing.
-use Prim.Native.Nat.{ℕ, _+_, _-_, _≤_, _<_}
-use borrow.Author.Tests.{ltb-true, ltb-false, eq-eqb, ne-eqb}
+use Prim.Native.Nat.{ℕ, _+_, _-_, _≤_}
+use borrow.Author.Tests.{ltb-true, ltb-false, ne-eqb}
 use lib.Dec.{ltb}
-use lib.ListN.{length}
 use mathlib.Core.Bool.{Bool, true, cond}
 use mathlib.Core.List.{List}
 use mathlib.Core.Logic.{_≢_}
@@ -13,13 +12,12 @@ use native.Mathlib.Omega.{arith}
 use Rattle.card.proofs.Test.{byTest}
 use Rattle.card.specs.Ring.{dirBlocks}
 use Rattle.frames.specs.Parts.{flushOwed, endsLeft, Foretells}
-use Rattle.record.proofs.Held.{Held, held, bounds}
+use Rattle.record.proofs.Held.{held}
 use Rattle.record.proofs.SoundLaws.{notes-length, queue-length}
 use Rattle.record.specs.Holds.{tailFor, holdsTogether}
-use Rattle.record.specs.Meaning.{waits, notesOf, phaseOf, stateOf}
+use Rattle.record.specs.Meaning.{waits, phaseOf, stateOf}
 use Rattle.record.specs.declared.store.Store.{Store}
 use Rattle.recovery.proofs.ForecastLaws.{forecast-none, forecast-sum}
-use Rattle.recovery.specs.State.{entryCount, isOwed, isFlushed}
 use Rattle.recovery.specs.Sums.{movesLeft, forecast, commitSum}
 
 -- ---- by the phase

@@ -1,11 +1,11 @@
 -- DEMANDS 2 AND 3 of the linked calls, and that their forecast holds, carried over from the by-value ones: a linked call
 -- keeps the by-value call's promise.
 -- Assumes nothing.
-use Prim.Native.Nat.{ℕ, zero, suc, _+_, _-_, _≤_, _<_}
-use borrow.Author.Tests.{eqb-true, eqb-false, eq-eqb, ne-eqb}
+use Prim.Native.Nat.{ℕ, zero, suc, _-_, _<_}
+use borrow.Author.Tests.{eqb-true, eqb-false, ne-eqb}
 use lib.Dec.{eqb}
 use lib.ListN.{length, getD}
-use mathlib.Core.Bool.{Bool, true, false, cond, false≢true}
+use mathlib.Core.Bool.{true, false, cond, false≢true}
 use mathlib.Core.List.{List, [], _∷_}
 use mathlib.Core.Logic.{_≢_}
 use mathlib.Core.Path.{_≡_, refl, ap, sym, subst, _∙_}
@@ -13,8 +13,8 @@ use native.Mathlib.Omega.{arith}
 use Rattle.card.proofs.Test.{byTest}
 use Rattle.card.specs.Question.{firstNo}
 use Rattle.frames.specs.Promise.{Lent, lent, numbered}
-use Rattle.lane.specs.Demands.{LinkedCalls, finished, next, replies, LinkedDemand2, LinkedRun, ended, calls, cuts, LinkedRecovers, LinkedDemand3, LinkedDemand3Spoilt, refusalOf, LinkedMayStand, LinkedUndisturbed, LinkedForeseen, LinkedForecastHolds}
-use Rattle.lane.specs.Linked.{Reply, number, filling, present, foretelling, report, kindNumber, numberOf, countOf, advancesOf, bytesOf, kindOf, blockOf, replyOf, Linked}
+use Rattle.lane.specs.Demands.{LinkedCalls, finished, next, replies, LinkedDemand2, LinkedRun, ended, calls, cuts, LinkedRecovers, LinkedDemand3, LinkedDemand3Spoilt, LinkedMayStand, LinkedUndisturbed, LinkedForeseen, LinkedForecastHolds}
+use Rattle.lane.specs.Linked.{Reply, number, filling, present, foretelling, report, kindNumber, numberOf, countOf, advancesOf, bytesOf, kindOf, blockOf, replyOf}
 use Rattle.pages.proofs.Demand2.{demand-2}
 use Rattle.pages.proofs.Demand3.{demand-3, demand-3-spoilt}
 use Rattle.pages.proofs.ForecastHolds.{forecast-holds}
@@ -25,7 +25,7 @@ use Rattle.pages.specs.Demand3.{World, Run}
 use Rattle.pages.specs.ForecastHolds.{MayStand, Undisturbed, ofAdvance, advances, Foreseen}
 use Rattle.pages.specs.Promise.{Call, start, key, read, write, rescind, snapshot, pageOut, advance, forecast, Answer, refused, done, counted, filled, wrote, foretold, asks, doneAnswer, refusal, answered, Kept}
 use Rattle.record.specs.Meaning.{zeroStore}
-use Rattle.recovery.specs.Step.{Kind, page, directory, trailer, migration, header, flush}
+use Rattle.recovery.specs.Step.{page, directory, trailer, migration, header, flush}
 use Rattle.recovery.specs.Write.{Adversary, Left, Spoilt}
 
 -- ---- the parts of a reply

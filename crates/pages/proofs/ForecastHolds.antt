@@ -2,19 +2,19 @@
 -- advance reports its first kind and leaves the rest, and every other call of the claim leaves it.
 -- Assumes nothing.
 use Prim.Native.Nat.{ℕ, zero, suc, _+_, _-_, _≤_, _<_}
-use borrow.Author.Tests.{lt-ltb, eq-eqb, ne-eqb, eqb-true, eqb-false}
+use borrow.Author.Tests.{lt-ltb, eq-eqb, ne-eqb}
 use lib.Dec.{eqb}
 use lib.ListN.{length, getD}
 use mathlib.Core.Bool.{Bool, true, false, cond, false≢true}
 use mathlib.Core.List.{List, [], _∷_}
 use mathlib.Core.Logic.{_≢_}
-use mathlib.Core.Option.{Option, none, some}
+use mathlib.Core.Option.{some}
 use mathlib.Core.Path.{_≡_, refl, ap, sym, _∙_, subst}
 use native.Mathlib.Decide.{ℕ-discrete}
 use native.Mathlib.Omega.{arith}
 use Rattle.card.proofs.QuestionLaws.{none-asked, asked-yes, asked-no}
 use Rattle.card.proofs.Test.{byTest}
-use Rattle.card.specs.Question.{Question, ask, firstNo}
+use Rattle.card.specs.Question.{ask, firstNo}
 use Rattle.card.specs.Range.{Range, allBlocks}
 use Rattle.card.specs.declared.range.Lookup.{Lookup}
 use Rattle.card.specs.declared.range.Lookup.the-variants.{Located, Outside}
@@ -27,11 +27,11 @@ use Rattle.pages.specs.Book.{isDone, isHeader, isFlush}
 use Rattle.pages.specs.Demand2.{NoStart, Calls, finished, next}
 use Rattle.pages.specs.ForecastHolds.{MayStand, Undisturbed, ofAdvance, advances, Foreseen, ForecastHolds}
 use Rattle.pages.specs.Plain.{Plain, blankGeneration, blank, phaseAfter, ledgerOf, isNone, plainAddress, plainOver, plainPast, plainAsks, PlainOutcome, plainWrite, plainRescind, plainAdvance, plainKind, plainDone, plainDoes}
-use Rattle.pages.specs.Promise.{Call, start, key, read, write, rescind, snapshot, pageOut, advance, forecast, Answer, refused, done, counted, filled, wrote, foretold, atPlace, refusal, Kept}
+use Rattle.pages.specs.Promise.{Call, start, key, read, write, rescind, snapshot, pageOut, advance, forecast, Answer, refused, done, wrote, foretold, atPlace, refusal, Kept}
 use Rattle.recovery.proofs.ForecastLaws as laws
 use Rattle.recovery.proofs.SumLaws.{same-due}
 use Rattle.recovery.specs.Questions.{given}
-use Rattle.recovery.specs.State.{State, entryCount, empty, Phase, writing, flushed, owed, isOwed}
+use Rattle.recovery.specs.State.{entryCount, empty, Phase, writing, flushed, owed, isOwed}
 use Rattle.recovery.specs.Step.{Kind, page, directory, trailer, migration, header, flush, afterChange, afterFlush, afterKind, advanceDue}
 use Rattle.recovery.specs.Sums as sums
 

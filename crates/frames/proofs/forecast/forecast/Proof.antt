@@ -1,8 +1,6 @@
 -- `frames::forecast::forecast` meets its contract.
 -- Assumes nothing.
 use Prim.Native.Nat.{_≤_}
-use mathlib.Core.Logic.{_≢_}
-use mathlib.Core.Path.{_≡_, ap}
 use native.Mathlib.Omega.{arith}
 use Rattle.frames.proofs.ForecastLaws.{tail-few, foretold-none, foretold-some}
 use Rattle.record.proofs.Held.{held, bounds}

@@ -1,7 +1,6 @@
 -- `frames::load::in_committed` meets its contract.
 -- Assumes nothing.
 use mathlib.Core.Path.{refl}
-use Rattle.frames.specs.Parts.{CommittedParts}
 use Rattle.frames.proofs.load.in_committed.Statement.{statement}
 use Rattle.frames.proofs.load.in_committed.Tie as tie
 

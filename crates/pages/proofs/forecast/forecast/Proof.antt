@@ -1,7 +1,6 @@
 -- `pages::forecast::forecast` meets its contract.
 -- Assumes nothing.
 use borrow.Author.Needs.{needs}
-use denote.Ref.{now}
 use mathlib.Core.Path.{sym, _∙_}
 use Rattle.frames.proofs.ReadyLaws.{ready, readable}
 use Rattle.pages.proofs.CallLaws.{forecast-refused, forecast-done}

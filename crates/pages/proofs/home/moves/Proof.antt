@@ -1,6 +1,5 @@
 -- `pages::home::moves` meets its contract.
 -- Assumes nothing.
-use Prim.Native.Nat.{_<_}
 use borrow.Author.Needs.{needs}
 use borrow.Author.Tests.{ltb-false}
 use mathlib.Core.Path.{sym, _∙_}
