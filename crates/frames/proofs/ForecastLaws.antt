@@ -3,44 +3,35 @@
 use Prim.Native.Nat.{ℕ, _+_, _-_, _≤_}
 use borrow.Author.Tests.{ltb-true, ltb-false, ne-eqb}
 use lib.Dec.{ltb}
-use mathlib.Core.Bool.{Bool, true, cond}
+use mathlib.Core.Bool.{Bool, true, false, cond}
 use mathlib.Core.List.{List}
 use mathlib.Core.Logic.{_≢_}
 use mathlib.Core.Path.{_≡_, refl, sym, _∙_}
-use native.Mathlib.Decide.{ℕ-discrete}
 use native.Mathlib.Omega.{arith}
 use Rattle.card.proofs.Test.{byTest}
 use Rattle.card.specs.Ring.{dirBlocks}
 use Rattle.frames.specs.Parts.{flushOwed, endsLeft, Foretells}
 use Rattle.record.proofs.Held.{held}
-use Rattle.record.proofs.SoundLaws.{notes-length, queue-length}
+use Rattle.record.proofs.SoundLaws.{notes-length, queue-length, phase-owed}
 use Rattle.record.specs.Holds.{tailFor, holdsTogether}
 use Rattle.record.specs.Meaning.{waits, phaseOf, stateOf}
 use Rattle.record.specs.declared.store.Store.{Store}
 use Rattle.recovery.proofs.ForecastLaws.{forecast-none, forecast-sum}
+use Rattle.recovery.specs.State.{isOwed}
 use Rattle.recovery.specs.Sums.{movesLeft, forecast, commitSum}
 
 -- ---- by the phase
 
--- a phase that question 2 lets through is 0, 1 or 2
 pub owed-one : (p : ℕ) → p ≡ 2 → 1 ≡ flushOwed p
 unfolding phaseOf
 owed-one p e = rw e refl
 
-owed-writing : (p : ℕ) → p ≡ 0 → 0 ≡ flushOwed p
-unfolding phaseOf
-owed-writing p e = rw e refl
-
-owed-flushed : (p : ℕ) → p ≡ 1 → 0 ≡ flushOwed p
-unfolding phaseOf
-owed-flushed p e = rw e refl
-
 pub owed-not : (p : ℕ) → p ≤ 2 → p ≢ 2 → 0 ≡ flushOwed p
-owed-not p h d = go (ℕ-discrete p 0)
+owed-not p h d = go (isOwed (phaseOf p)) refl
   where
-    go : Dec (p ≡ 0) → 0 ≡ flushOwed p
-    go (yes z) = owed-writing p z
-    go (no z) = owed-flushed p (omega (arith, h, d, z))
+    go : (t : Bool) → isOwed (phaseOf p) ≡ t → _≡_ {A = ℕ} 0 (cond t 1 0)
+    go true e = absurd (d (phase-owed p h e))
+    go false e = refl
 
 pub ends-writing : (p : ℕ) → p ≡ 0 → 3 ≡ endsLeft p
 unfolding phaseOf

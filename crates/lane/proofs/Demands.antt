@@ -13,8 +13,9 @@ use native.Mathlib.Omega.{arith}
 use Rattle.card.proofs.Test.{byTest}
 use Rattle.card.specs.Question.{firstNo}
 use Rattle.frames.specs.Promise.{Lent, lent, numbered}
-use Rattle.lane.specs.Demands.{LinkedCalls, finished, next, replies, LinkedDemand2, LinkedRun, ended, calls, cuts, LinkedRecovers, LinkedDemand3, LinkedDemand3Spoilt, LinkedMayStand, LinkedUndisturbed, LinkedForeseen, LinkedForecastHolds}
+use Rattle.lane.specs.Demands.{LinkedCalls, finished, next, replies, LinkedDemand2, LinkedRun, ended, calls, cuts, LinkedRecovers, LinkedDemand3, LinkedDemand3Spoilt, refusalOf, LinkedMayStand, LinkedUndisturbed, LinkedForeseen, LinkedForecastHolds}
 use Rattle.lane.specs.Linked.{Reply, number, filling, present, foretelling, report, kindNumber, numberOf, countOf, advancesOf, bytesOf, kindOf, blockOf, replyOf}
+use Rattle.pages.proofs.AnswerLaws.{Later}
 use Rattle.pages.proofs.Demand2.{demand-2}
 use Rattle.pages.proofs.Demand3.{demand-3, demand-3-spoilt}
 use Rattle.pages.proofs.ForecastHolds.{forecast-holds}
@@ -191,6 +192,22 @@ stands-told snapshot a k = refused-told a k
 stands-told pageOut a k = refused-told a k
 stands-told advance a k = tt
 stands-told forecast a k = tt
+
+-- and no less than is said: every refused call but a start, and six calls whatever they reply
+pub linked-refused-stands : (c : Call) (r : Reply) → Later c → refusalOf r ≢ 0 → LinkedMayStand c r
+linked-refused-stands (start m) r l z = absurd l
+linked-refused-stands (key o) r l z = tt
+linked-refused-stands (read o n x) r l z = tt
+linked-refused-stands (write o n at new) r l z = tt
+linked-refused-stands (rescind o n) r l z = tt
+linked-refused-stands snapshot r l z = z
+linked-refused-stands pageOut r l z = z
+linked-refused-stands advance r l z = tt
+linked-refused-stands forecast r l z = tt
+
+pub linked-six-stand : (o n at : ℕ) (x new : List ℕ) (r : Reply)
+    → LinkedMayStand (key o) r × LinkedMayStand (read o n x) r × LinkedMayStand (write o n at new) r × LinkedMayStand (rescind o n) r × LinkedMayStand advance r × LinkedMayStand forecast r
+linked-six-stand o n at x new r = (tt, tt, tt, tt, tt, tt)
 
 undisturbed : (ds : List Call) (rs : List Reply) (l l′ : Lent) (ks : LinkedCalls ds l rs l′) → LinkedUndisturbed ds rs → Undisturbed ds (answers ds rs l l′ ks)
 undisturbed _ _ _ _ (finished l) q = tt

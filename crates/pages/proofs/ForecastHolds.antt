@@ -2,7 +2,7 @@
 -- advance reports its first kind and leaves the rest, and every other call of the claim leaves it.
 -- Assumes nothing.
 use Prim.Native.Nat.{ℕ, zero, suc, _+_, _-_, _≤_, _<_}
-use borrow.Author.Tests.{lt-ltb, eq-eqb, ne-eqb}
+use borrow.Author.Tests.{eq-eqb, ne-eqb}
 use lib.Dec.{eqb}
 use lib.ListN.{length, getD}
 use mathlib.Core.Bool.{Bool, true, false, cond, false≢true}
@@ -21,7 +21,7 @@ use Rattle.card.specs.declared.range.Lookup.the-variants.{Located, Outside}
 use Rattle.frames.specs.Promise.{Lent, advanced}
 use Rattle.pages.proofs.AnswerLaws.{Later}
 use Rattle.pages.proofs.Demand2 as demand
-use Rattle.pages.proofs.LedgerLaws.{nonePending}
+use Rattle.pages.proofs.LedgerLaws.{nonePending, kind-phase}
 use Rattle.pages.proofs.PlainLaws.{InStep}
 use Rattle.pages.specs.Book.{isDone, isHeader, isFlush}
 use Rattle.pages.specs.Demand2.{NoStart, Calls, finished, next}
@@ -29,10 +29,10 @@ use Rattle.pages.specs.ForecastHolds.{MayStand, Undisturbed, ofAdvance, 
 use Rattle.pages.specs.Plain.{Plain, blankGeneration, blank, phaseAfter, ledgerOf, isNone, plainAddress, plainOver, plainPast, plainAsks, PlainOutcome, plainWrite, plainRescind, plainAdvance, plainKind, plainDone, plainDoes}
 use Rattle.pages.specs.Promise.{Call, start, key, read, write, rescind, snapshot, pageOut, advance, forecast, Answer, refused, done, wrote, foretold, atPlace, refusal, Kept}
 use Rattle.recovery.proofs.ForecastLaws as laws
-use Rattle.recovery.proofs.SumLaws.{same-due}
+use Rattle.recovery.proofs.SumLaws.{same-due, given-first}
 use Rattle.recovery.specs.Questions.{given}
-use Rattle.recovery.specs.State.{entryCount, empty, Phase, writing, flushed, owed, isOwed}
-use Rattle.recovery.specs.Step.{Kind, page, directory, trailer, migration, header, flush, afterChange, afterFlush, afterKind, advanceDue}
+use Rattle.recovery.specs.State.{entryCount, empty, isOwed}
+use Rattle.recovery.specs.Step.{Kind, page, directory, trailer, migration, header, flush, afterChange, afterKind, advanceDue}
 use Rattle.recovery.specs.Sums as sums
 
 -- what the machine has still to make until the pending snapshot is safe, and how many that are
@@ -48,18 +48,6 @@ long-is t = refl
 
 same-foreseen : (t u : Plain) → listed t ≡ listed u → foreseen t ≡ foreseen u
 same-foreseen t u e = long-is t ∙ ap length e ∙ sym (long-is u)
-
-first-some : (ks : List Kind) (k : Kind) → sums.firstOf ks ≡ some k → 0 < length ks
-unfolding sums.firstOf
-first-some [] k e = absurd (false≢true (ap given e))
-first-some (x ∷ xs) k e = omega arith
-
--- the machine's account of a flush is the ledger's
-flush-phase : (p : Phase) → afterFlush p ≡ phaseAfter flush p
-unfolding phaseAfter
-flush-phase writing = refl
-flush-phase flushed = refl
-flush-phase owed = refl
 
 -- ---- kinds and answers
 
@@ -90,12 +78,12 @@ module _ (t : Plain) where
   write-same : (o at : ℕ) (new : List ℕ) (x : Lookup) → listed t ≡ listed (atPlace t x (plainWrite o at new t))
   unfolding atPlace plainWrite afterChange
   write-same o at new Outside = refl
-  write-same o at new (Located p) = byTest (λ (u : Plain). listed t ≡ listed u) (eqb (length new) 0) (λ e. refl) (λ e. unfold sums.commitWrites sums.remainingWrites sums.movesLeft in refl)
+  write-same o at new (Located p) = byTest (λ (u : Plain). listed t ≡ listed u) (eqb (length new) 0) (λ e. refl) (λ e. sym (laws.commit-change (plainOver t) _ (ledgerOf t)))
 
   rescind-same : (o : ℕ) (x : Lookup) → listed t ≡ listed (atPlace t x (plainRescind o t))
-  unfolding atPlace plainRescind afterChange sums.commitWrites sums.remainingWrites sums.movesLeft
+  unfolding atPlace plainRescind afterChange
   rescind-same o Outside = refl
-  rescind-same o (Located p) = refl
+  rescind-same o (Located p) = sym (laws.commit-change (plainOver t) _ (ledgerOf t))
 
   -- every call but advance
   abbrev Other : Call → Type 0
@@ -111,7 +99,7 @@ module _ (t : Plain) where
 
   done-same : (c : Call) → Other c → MayStand c (plainDone c t .answer) → listed t ≡ listed (plainDone c t .next)
   unfolding plainDone isDone
-  done-same (start m) o k = refl
+  done-same (start m) o k = absurd k
   done-same (key u) o k = refl
   done-same (read u n x) o k = refl
   done-same (write u n at new) o k = write-same u at new (plainAddress t u)
@@ -136,7 +124,7 @@ module _ (t : Plain) where
 
     asked : firstNo (plainAsks advance t) ≡ 0
     unfolding plainAsks sums.advanceSums
-    asked = asked-yes 20 _ [] (lt-ltb 0 _ (first-some (sums.remainingWrites (plainOver t) (ledgerOf t)) (due .0) first-is)) ∙ none-asked
+    asked = asked-yes 20 _ [] (sym (given-first (sums.remainingWrites (plainOver t) (ledgerOf t))) ∙ ap given first-is) ∙ none-asked
 
     does-is : plainDoes advance t ≡ plainAdvance (some (due .0)) (plainPast t)
     unfolding plainDoes plainDone
@@ -150,7 +138,7 @@ module _ (t : Plain) where
     same-list trailer = refl
     same-list migration = refl
     same-list header = unfold sums.commitWrites empty in refl
-    same-list flush = rw (flush-phase (t .phase)) refl
+    same-list flush = rw (kind-phase flush (ledgerOf t)) refl
 
     next-is : listed t ≡ due .0 ∷ listed (plainDoes advance t .next)
     next-is = laws.commit-step (plainOver t) (ledgerOf t) above (due .0) (due .1)
@@ -186,6 +174,22 @@ foreseen-later n i a f = record {
     shifted : Dec (i + 2 ≡ n) → eqb (i + 2) n ≡ eqb (suc i + 2) (suc n)
     shifted (yes e) = eq-eqb (i + 2) n e ∙ sym (eq-eqb (suc i + 2) (suc n) (omega (arith, e)))
     shifted (no d) = ne-eqb (i + 2) n d ∙ sym (ne-eqb (suc i + 2) (suc n) (λ e. d (omega (arith, e))))
+
+-- what may stand is no less than is said: every refused call but a start, and six calls whatever they answer
+pub refused-stands : (c : Call) (a : Answer) → Later c → isDone a ≡ false → MayStand c a
+refused-stands (start m) a l e = absurd l
+refused-stands (key o) a l e = tt
+refused-stands (read o n x) a l e = tt
+refused-stands (write o n at new) a l e = tt
+refused-stands (rescind o n) a l e = tt
+refused-stands snapshot a l e = e
+refused-stands pageOut a l e = e
+refused-stands advance a l e = tt
+refused-stands forecast a l e = tt
+
+pub six-stand : (o n at : ℕ) (x new : List ℕ) (a : Answer)
+    → MayStand (key o) a × MayStand (read o n x) a × MayStand (write o n at new) a × MayStand (rescind o n) a × MayStand advance a × MayStand forecast a
+six-stand o n at x new a = (tt, tt, tt, tt, tt, tt)
 
 stands-later : (c : Call) (a : Answer) → MayStand c a → Later c
 stands-later (start m) a k = absurd k

@@ -179,7 +179,7 @@ module _ (over : ℕ → Bool) (s : State) where
     unfolding forecast
     forecast-two = omega (arith, ap length writes-are, writes-long (isOwed (s .phase)) (isFlushed (s .phase)) w d (s .tailDown) left)
 
-    pub last-two : forecast over s ≡ 2 → commitWrites over s ≡ header ∷ flush ∷ []
+    last-two : forecast over s ≡ 2 → commitWrites over s ≡ header ∷ flush ∷ []
     unfolding forecast
     last-two e = writes-are ∙ two-of (isOwed (s .phase)) (isFlushed (s .phase)) w d (s .tailDown) left (sym (ap length writes-are) ∙ e)
 

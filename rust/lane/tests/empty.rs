@@ -94,13 +94,19 @@ impl Lane {
     }
 }
 
-/// The documents' case: M for the pot only, also after a start.
-#[test]
-fn a_page_that_is_rescinded_before_its_snapshot_is_passed_over() {
+/// A page that is written and rescinded before its snapshot.
+fn emptied() -> Lane {
     let mut lane = Lane::new(8);
     lane.write(0, 7);
     lane.rescind(0);
     lane.snapshot();
+    lane
+}
+
+/// The documents' case: M for the pot only, also after a start.
+#[test]
+fn a_page_that_is_rescinded_before_its_snapshot_is_passed_over() {
+    let mut lane = emptied();
     assert_eq!(lane.settle(), "F 0, P 1, P 2, D 3, T 4, F 0, H 0, F 0, M 9");
     let entry = |pot: usize| &lane.card[pot * BLOCK..][..5];
     assert_eq!([entry(2), entry(9)], [[1, 0, 0, 0, 1]; 2]);
@@ -113,10 +119,7 @@ fn a_page_that_is_rescinded_before_its_snapshot_is_passed_over() {
 /// The next commit does not wait for it, and a write begins with zeros, not with what is at home.
 #[test]
 fn a_page_that_was_passed_over_is_written_anew() {
-    let mut lane = Lane::new(8);
-    lane.write(0, 7);
-    lane.rescind(0);
-    lane.snapshot();
+    let mut lane = emptied();
     lane.settle();
     lane.write(0, 8);
     assert_eq!(lane.page(0), (1, 8));
@@ -133,10 +136,7 @@ fn a_page_that_was_passed_over_is_written_anew() {
 /// What is foretold are the writes that are made: F, P, D, T, M of the pot, F, H, F.
 #[test]
 fn a_page_that_is_passed_over_is_not_foretold() {
-    let mut lane = Lane::new(8);
-    lane.write(0, 7);
-    lane.rescind(0);
-    lane.snapshot();
+    let mut lane = emptied();
     assert_eq!(lane.forecast(), 8);
     while lane.store.advance(&mut lane.card, &lane.memory) != Ok(Report::H(0)) {}
     assert_eq!(lane.forecast(), 1);

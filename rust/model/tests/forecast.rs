@@ -16,10 +16,12 @@ fn foretold(model: &mut Model, lent: Lent) -> Vec<(usize, Kind)> {
     run.collect()
 }
 
-/// The advances from n on down to the flush after H, the last but one H.
-fn counted_down(kinds: &[Kind]) -> Vec<(usize, Kind)> {
+/// The advances are these, counted down to 1, and then M alone, so often.
+fn counts_down(model: &mut Model, lent: Lent, kinds: &[Kind], home: usize) {
     let left = (1..=kinds.len()).rev();
-    left.zip(kinds.iter().copied()).collect()
+    let mut run: Vec<(usize, Kind)> = left.zip(kinds.iter().copied()).collect();
+    run.extend(std::iter::repeat_n((0, M), home));
+    assert_eq!(foretold(model, lent), run);
 }
 
 /// A snapshot before the first flush: 8, then 7 to 1, and 0 behind the flush
@@ -31,9 +33,7 @@ fn forecast_of_the_whole_run() {
     assert_eq!(model.write(lent, 100, 0, 0, &[7]), Ok(()));
     assert_eq!(model.forecast(lent), Ok(1));
     assert_eq!(model.snapshot(lent), Ok(()));
-    let committed = counted_down(&[F, P, P, D, T, F, H, F]);
-    let home = [(0, M), (0, M)];
-    assert_eq!(foretold(&mut model, lent), [&committed[..], &home].concat());
+    counts_down(&mut model, lent, &[F, P, P, D, T, F, H, F], 2);
     assert_eq!(model.forecast(lent), Ok(0));
 }
 
@@ -55,11 +55,7 @@ fn forecast_counts_the_migration_left() {
     assert_eq!(model.forecast(lent), Ok(1));
     assert_eq!(model.write(lent, 100, 0, 0, &[8]), Ok(()));
     assert_eq!(model.snapshot(lent), Ok(()));
-    let committed = counted_down(&[F, P, D, T, M, M, F, H, F]);
-    assert_eq!(
-        foretold(&mut model, lent),
-        [&committed[..], &[(0, M)]].concat()
-    );
+    counts_down(&mut model, lent, &[F, P, D, T, M, M, F, H, F], 1);
 }
 
 /// #104's case, and the pot changed once more: the page has not to go home.
@@ -73,11 +69,7 @@ fn forecast_leaves_out_what_is_passed_over() {
     advance_up_to(H, &mut model, lent);
     assert_eq!(model.rescind(lent, 100, 1), Ok(()));
     assert_eq!(model.snapshot(lent), Ok(()));
-    let committed = counted_down(&[F, P, D, T, M, F, H, F]);
-    assert_eq!(
-        foretold(&mut model, lent),
-        [&committed[..], &[(0, M)]].concat()
-    );
+    counts_down(&mut model, lent, &[F, P, D, T, M, F, H, F], 1);
 }
 
 /// Nor do those that are left before H, when nothing else is.
@@ -90,11 +82,7 @@ fn forecast_does_not_wait_for_what_is_passed_over() {
     advance_up_to(M, &mut model, lent);
     assert_eq!(model.rescind(lent, 100, 1), Ok(()));
     assert_eq!(model.snapshot(lent), Ok(()));
-    let committed = counted_down(&[P, D, T, F, H, F]);
-    assert_eq!(
-        foretold(&mut model, lent),
-        [&committed[..], &[(0, M)]].concat()
-    );
+    counts_down(&mut model, lent, &[P, D, T, F, H, F], 1);
 }
 
 /// Keys, reads, writes, rescinds and refused calls.
@@ -129,8 +117,7 @@ fn forecast_after_page_outs() {
     assert_eq!(model.forecast(lent), Ok(5));
     assert_eq!(model.page_out(lent), Ok(5));
     assert_eq!(model.forecast(lent), Ok(5));
-    let committed = counted_down(&[D, T, F, H, F]);
-    assert_eq!(foretold(&mut model, lent)[..5], committed);
+    counts_down(&mut model, lent, &[D, T, F, H, F], 2);
 }
 
 #[test]

@@ -169,7 +169,8 @@ impl<D: Drive> Lane<D> {
     /// them. 0 where none is pending, since an open has made its flush.
     ///
     /// A write or a rescind leaves the number as it is, unless it makes [`Room`]: what it makes then
-    /// may take from it, down to 0.
+    /// may take from it, down to 0. A block that was paged out is counted no more, though it may go
+    /// to the drive with the next ones.
     ///
     /// # Errors
     ///
