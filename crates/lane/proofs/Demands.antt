@@ -14,17 +14,18 @@ use Rattle.card.proofs.Test.{byTest}
 use Rattle.card.specs.Question.{firstNo}
 use Rattle.frames.specs.Promise.{Lent, lent, numbered}
 use Rattle.lane.specs.Demands.{LinkedCalls, finished, next, replies, LinkedDemand2, LinkedRun, ended, calls, cuts, LinkedRecovers, LinkedDemand3, LinkedDemand3Spoilt, refusalOf, LinkedMayStand, LinkedUndisturbed, LinkedForeseen, LinkedForecastHolds}
-use Rattle.lane.specs.Linked.{Reply, number, filling, present, foretelling, report, kindNumber, numberOf, countOf, advancesOf, bytesOf, kindOf, blockOf, replyOf}
+use Rattle.lane.specs.Linked.{Reply, number, filling, present, foretelling, report, kindNumber, numberOf, countOf, advancesOf, bytesOf, kindOf, blockOf, pageReply, replyOf}
 use Rattle.pages.proofs.AnswerLaws.{Later}
 use Rattle.pages.proofs.Demand2.{demand-2}
 use Rattle.pages.proofs.Demand3.{demand-3, demand-3-spoilt}
 use Rattle.pages.proofs.ForecastHolds.{forecast-holds}
 use Rattle.pages.specs.Book.{Event, isDone, isHeader, isFlush}
+use Rattle.pages.specs.Call.{key, read, write, rescind, Call, start, on, snapshot, pageOut, advance, forecast, Answer, refused, done, counted, filled, wrote, foretold}
 use Rattle.pages.specs.Demand2 as byValue2
 use Rattle.pages.specs.Demand3 as byValue
 use Rattle.pages.specs.Demand3.{World, Run}
 use Rattle.pages.specs.ForecastHolds.{MayStand, Undisturbed, ofAdvance, advances, Foreseen}
-use Rattle.pages.specs.Promise.{Call, start, key, read, write, rescind, snapshot, pageOut, advance, forecast, Answer, refused, done, counted, filled, wrote, foretold, asks, doneAnswer, refusal, answered, Kept}
+use Rattle.pages.specs.Promise.{asks, doneAnswer, refusal, answered, Kept}
 use Rattle.record.specs.Meaning.{zeroStore}
 use Rattle.recovery.specs.Step.{page, directory, trailer, migration, header, flush}
 use Rattle.recovery.specs.Write.{Adversary, Left, Spoilt}
@@ -90,7 +91,7 @@ run A _ _ _ (cuts e es u v w is s ks) = byValue.then e es u v w s (run A es v w 
 
 -- of any drive of which the by-value calls recover
 linked-recovers : (A : Adversary) → byValue.Recovers A → LinkedRecovers A
-unfolding numbered answered replyOf numberOf countOf bytesOf
+unfolding numbered answered replyOf pageReply numberOf countOf bytesOf
 linked-recovers A recovers area numbers before card f v e es w ks m long n l k =
     let d = recovers area numbers before card f v e es w (run A es _ w ks) m long (k .answer) l (k .kept) in (
       ap firstOf (k .in-numbers) ∙ ap numberOf (d .0),
@@ -184,10 +185,7 @@ marks l l′ a k = subst (λ (x : Answer). numberOf x ≡ 16 → x ≡ refused 1
 stands-told : (c : Call) (a : Answer) → LinkedMayStand c (replyOf c a) → MayStand c a
 unfolding replyOf
 stands-told (start m) a k = k
-stands-told (key o) a k = tt
-stands-told (read o n x) a k = tt
-stands-told (write o n at new) a k = tt
-stands-told (rescind o n) a k = tt
+stands-told (on o c) a k = tt
 stands-told snapshot a k = refused-told a k
 stands-told pageOut a k = refused-told a k
 stands-told advance a k = tt
@@ -196,17 +194,14 @@ stands-told forecast a k = tt
 -- and no less than is said: every refused call but a start, and six calls whatever they reply
 pub linked-refused-stands : (c : Call) (r : Reply) → Later c → refusalOf r ≢ 0 → LinkedMayStand c r
 linked-refused-stands (start m) r l z = absurd l
-linked-refused-stands (key o) r l z = tt
-linked-refused-stands (read o n x) r l z = tt
-linked-refused-stands (write o n at new) r l z = tt
-linked-refused-stands (rescind o n) r l z = tt
+linked-refused-stands (on o c) r l z = tt
 linked-refused-stands snapshot r l z = z
 linked-refused-stands pageOut r l z = z
 linked-refused-stands advance r l z = tt
 linked-refused-stands forecast r l z = tt
 
 pub linked-six-stand : (o n at : ℕ) (x new : List ℕ) (r : Reply)
-    → LinkedMayStand (key o) r × LinkedMayStand (read o n x) r × LinkedMayStand (write o n at new) r × LinkedMayStand (rescind o n) r × LinkedMayStand advance r × LinkedMayStand forecast r
+    → LinkedMayStand (on o key) r × LinkedMayStand (on o (read n x)) r × LinkedMayStand (on o (write n at new)) r × LinkedMayStand (on o (rescind n)) r × LinkedMayStand advance r × LinkedMayStand forecast r
 linked-six-stand o n at x new r = (tt, tt, tt, tt, tt, tt)
 
 undisturbed : (ds : List Call) (rs : List Reply) (l l′ : Lent) (ks : LinkedCalls ds l rs l′) → LinkedUndisturbed ds rs → Undisturbed ds (answers ds rs l l′ ks)
@@ -220,10 +215,7 @@ reports (a ∷ as′) = replyOf advance a ∷ reports as′
 
 one-report : (c : Call) (a : Answer) (as′ : List Answer) → ofAdvance c (replyOf c a) (reports as′) ≡ reports (ofAdvance c a as′)
 one-report (start m) a as′ = refl
-one-report (key o) a as′ = refl
-one-report (read o n x) a as′ = refl
-one-report (write o n at new) a as′ = refl
-one-report (rescind o n) a as′ = refl
+one-report (on o c) a as′ = refl
 one-report snapshot a as′ = refl
 one-report pageOut a as′ = refl
 one-report advance a as′ = refl

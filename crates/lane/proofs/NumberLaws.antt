@@ -9,11 +9,12 @@ use Rattle.card.proofs.Test.{byTest}
 use Rattle.frames.specs.Promise.{Lent, FrameAnswer, numbered, reported}
 use Rattle.frames.specs.declared.answer.Advance.{Advance}
 use Rattle.frames.specs.declared.answer.Advance.the-variants.{P, D, T, M, H, F, Refused}
-use Rattle.lane.specs.Linked.{number, filling, present, foretelling, report, presentOf, foretoldOf, reportOf, kindNumber, numberOf, countOf, advancesOf, bytesOf, kindOf, blockOf, replyOf, Linked}
+use Rattle.lane.specs.Linked.{number, filling, present, foretelling, report, presentOf, foretoldOf, reportOf, kindNumber, numberOf, countOf, advancesOf, bytesOf, kindOf, blockOf, pageReply, replyOf, Linked}
 use Rattle.lane.specs.declared.answer.Foretold.{Foretold}
 use Rattle.lane.specs.declared.answer.Present.{Present}
 use Rattle.lane.specs.declared.answer.Report.{Report}
-use Rattle.pages.specs.Promise.{Call, start, key, read, write, rescind, snapshot, pageOut, advance, forecast, filled, answered, countedAs, foretoldAs, Kept}
+use Rattle.pages.specs.Call.{key, read, write, rescind, Call, start, on, snapshot, pageOut, advance, forecast, filled}
+use Rattle.pages.specs.Promise.{answered, countedAs, foretoldAs, Kept}
 use Rattle.pages.specs.declared.answer.Count.{Count}
 use Rattle.pages.specs.declared.answer.Count.the-variants as Counts
 use Rattle.pages.specs.declared.answer.Forecast.{Forecast}
@@ -56,24 +57,24 @@ module _ (l l′ : Lent) (n : ℕ) where
   unfolding replyOf
   linked-start m k = linked-number (start m) l l′ n refl k
 
-  pub linked-write : (o c at : ℕ) (new : List ℕ) → Kept (write o c at new) l (answered (numbered n)) l′ → Linked (write o c at new) l (number n) l′
-  unfolding replyOf
-  linked-write o c at new k = linked-number (write o c at new) l l′ n refl k
+  pub linked-write : (o c at : ℕ) (new : List ℕ) → Kept (on o (write c at new)) l (answered (numbered n)) l′ → Linked (on o (write c at new)) l (number n) l′
+  unfolding replyOf pageReply
+  linked-write o c at new k = linked-number (on o (write c at new)) l l′ n refl k
 
-  pub linked-rescind : (o c : ℕ) → Kept (rescind o c) l (answered (numbered n)) l′ → Linked (rescind o c) l (number n) l′
-  unfolding replyOf
-  linked-rescind o c k = linked-number (rescind o c) l l′ n refl k
+  pub linked-rescind : (o c : ℕ) → Kept (on o (rescind c)) l (answered (numbered n)) l′ → Linked (on o (rescind c)) l (number n) l′
+  unfolding replyOf pageReply
+  linked-rescind o c k = linked-number (on o (rescind c)) l l′ n refl k
 
   pub linked-snapshot : Kept snapshot l (answered (numbered n)) l′ → Linked snapshot l (number n) l′
   unfolding replyOf
   linked-snapshot k = linked-number snapshot l l′ n refl k
 
-pub linked-read : (o k : ℕ) (x : List ℕ) (l l′ : Lent) (n : ℕ) (b : List ℕ) → Kept (read o k x) l (filled n b) l′ → Linked (read o k x) l (filling n b) l′
-unfolding replyOf numberOf bytesOf
+pub linked-read : (o k : ℕ) (x : List ℕ) (l l′ : Lent) (n : ℕ) (b : List ℕ) → Kept (on o (read k x)) l (filled n b) l′ → Linked (on o (read k x)) l (filling n b) l′
+unfolding replyOf pageReply numberOf bytesOf
 linked-read o k x l l′ n b p = record { answer = _; in-numbers = refl; kept = p }
 
-pub linked-key : (o : ℕ) (l l′ : Lent) (a : Count) (r : Present) → r ≡ presentOf a → Kept (key o) l (countedAs a) l′ → Linked (key o) l (present (r .refusal) (r .count)) l′
-unfolding replyOf
+pub linked-key : (o : ℕ) (l l′ : Lent) (a : Count) (r : Present) → r ≡ presentOf a → Kept (on o key) l (countedAs a) l′ → Linked (on o key) l (present (r .refusal) (r .count)) l′
+unfolding replyOf pageReply
 linked-key o l l′ a r e k = record { answer = _; in-numbers = ap (λ (x : Present). present (x .refusal) (x .count)) e ∙ as-present a; kept = k }
 
 pub linked-forecast : (l l′ : Lent) (f : Forecast) (r : Foretold) → r ≡ foretoldOf f → Kept forecast l (foretoldAs f) l′ → Linked forecast l (foretelling (r .refusal) (r .advances)) l′

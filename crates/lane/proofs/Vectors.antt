@@ -4,11 +4,11 @@
 use Prim.Native.Nat.{ℕ}
 use mathlib.Core.Path.{_≡_, refl}
 use Rattle.frames.specs.declared.answer.Advance.the-variants.{P, D, T, M, H, F, Refused}
-use Rattle.lane.specs.Linked.{present, foretelling, report, presentOf, foretoldOf, reportOf, kindNumber, numberOf, countOf, advancesOf, kindOf, blockOf, replyOf}
+use Rattle.lane.specs.Linked.{present, foretelling, report, presentOf, foretoldOf, reportOf, kindNumber, numberOf, countOf, advancesOf, kindOf, blockOf, pageReply, replyOf}
 use Rattle.lane.specs.declared.answer.Foretold.{Foretold}
 use Rattle.lane.specs.declared.answer.Present.{Present}
 use Rattle.lane.specs.declared.answer.Report.{Report}
-use Rattle.pages.specs.Promise.{key, pageOut, advance, forecast, refused, counted, wrote, foretold}
+use Rattle.pages.specs.Call.{key, on, pageOut, advance, forecast, refused, counted, wrote, foretold}
 use Rattle.pages.specs.declared.answer.Count.the-variants as Counts
 use Rattle.pages.specs.declared.answer.Forecast.the-variants as Forecasts
 use Rattle.recovery.specs.Step.{page, header, flush}
@@ -40,7 +40,7 @@ foretold-fields = (refl, refl)
 -- the replies of the two demands
 pub replies-told : (replyOf pageOut (wrote page 9) ≡ report 1 0 9) × (replyOf advance (wrote header 0) ≡ report 5 0 0)
     × (replyOf advance (wrote flush 0) ≡ report 6 0 0) × (replyOf advance (refused 20) ≡ report 0 20 0)
-    × (replyOf (key 100) (counted 7) ≡ present 0 7) × (replyOf (key 100) (refused 9) ≡ present 9 0)
+    × (replyOf (on 100 key) (counted 7) ≡ present 0 7) × (replyOf (on 100 key) (refused 9) ≡ present 9 0)
     × (replyOf forecast (foretold 8) ≡ foretelling 0 8) × (replyOf forecast (refused 3) ≡ foretelling 3 0)
-unfolding replyOf kindOf kindNumber numberOf countOf advancesOf blockOf
+unfolding replyOf pageReply kindOf kindNumber numberOf countOf advancesOf blockOf
 replies-told = (refl, refl, refl, refl, refl, refl, refl, refl)

@@ -14,12 +14,13 @@ use Rattle.card.specs.Block.{whole}
 use Rattle.frames.specs.Promise.{Lent, lent, numbered}
 use Rattle.lane.specs.Linked.{Reply, number, filling, present, foretelling, report, replyOf, Linked}
 use Rattle.pages.specs.Book.{Event, called, cutIn, cut, isFlush, formatBook, bookAfter}
+use Rattle.pages.specs.Call.{key, read, Call, start, on, snapshot, pageOut, advance, forecast, Answer}
 use Rattle.pages.specs.Demand2.{plainAnswers, plainCard, NoStart}
 use Rattle.pages.specs.Demand3.{World, lentTo, driveAfter, Step, OfRanges}
 use Rattle.pages.specs.ForecastHolds.{advances}
 use Rattle.pages.specs.Page.{Page}
 use Rattle.pages.specs.Plain.{plainOf}
-use Rattle.pages.specs.Promise.{Call, start, key, read, write, rescind, snapshot, pageOut, advance, forecast, Answer, answered, outcome, FormatKept}
+use Rattle.pages.specs.Promise.{answered, outcome, FormatKept}
 use Rattle.record.specs.Meaning.{zeroStore}
 use Rattle.recovery.specs.Step.{startState}
 use Rattle.recovery.specs.Write.{Drive, seen, Adversary, Left, Spoilt}
@@ -59,7 +60,7 @@ pub data LinkedRun (A : Adversary) : List Event → World → World → Type 0 w
 -- key replies 0 and the page's count, and read with that key 0 and its bytes
 abbrev pub LinkedShows : Lent → ℕ → Page → Type 0
 LinkedShows l oid p = (refusal count number : ℕ) (before after : List ℕ) (l₁ l₂ : Lent) → length before ≡ 512
-    → Linked (key oid) l (present refusal count) l₁ → Linked (read oid (p .count) before) l₁ (filling number after) l₂
+    → Linked (on oid key) l (present refusal count) l₁ → Linked (on oid (read (p .count) before)) l₁ (filling number after) l₂
     → (refusal ≡ 0) × (count ≡ p .count) × (number ≡ 0) × (after ≡ p .bytes)
 
 abbrev pub LinkedRecovers : Adversary → Type 0
@@ -90,10 +91,7 @@ refusalOf (report k r b) = r
 
 abbrev pub LinkedMayStand : Call → Reply → Type 0
 LinkedMayStand (start m) r = ⊥
-LinkedMayStand (key o) r = Unit {0}
-LinkedMayStand (read o n x) r = Unit {0}
-LinkedMayStand (write o n at new) r = Unit {0}
-LinkedMayStand (rescind o n) r = Unit {0}
+LinkedMayStand (on o c) r = Unit {0}
 LinkedMayStand snapshot r = refusalOf r ≢ 0
 LinkedMayStand pageOut r = refusalOf r ≢ 0
 LinkedMayStand advance r = Unit {0}

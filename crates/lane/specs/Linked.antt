@@ -9,7 +9,8 @@ use Rattle.frames.specs.declared.answer.Advance.the-variants.{P, D, T, M, H, F,
 use Rattle.lane.specs.declared.answer.Foretold.{Foretold}
 use Rattle.lane.specs.declared.answer.Present.{Present}
 use Rattle.lane.specs.declared.answer.Report.{Report}
-use Rattle.pages.specs.Promise.{Call, start, key, read, write, rescind, snapshot, pageOut, advance, forecast, Answer, refused, done, counted, filled, wrote, foretold, Kept}
+use Rattle.pages.specs.Call.{PageCall, key, read, write, rescind, Call, start, on, snapshot, pageOut, advance, forecast, Answer, refused, done, counted, filled, wrote, foretold}
+use Rattle.pages.specs.Promise.{Kept}
 use Rattle.pages.specs.declared.answer.Count.{Count}
 use Rattle.pages.specs.declared.answer.Count.the-variants as Counts
 use Rattle.pages.specs.declared.answer.Forecast.{Forecast}
@@ -107,12 +108,15 @@ blockOf (wrote k b) = b
 blockOf (foretold n) = 0
 
 -- a call's answer in numbers
+unfoldable pub pageReply : PageCall → Answer → Reply
+pageReply key a = present (numberOf a) (countOf a)
+pageReply (read n b) a = filling (numberOf a) (bytesOf a)
+pageReply (write n at new) a = number (numberOf a)
+pageReply (rescind n) a = number (numberOf a)
+
 unfoldable pub replyOf : Call → Answer → Reply
 replyOf (start m) a = number (numberOf a)
-replyOf (key o) a = present (numberOf a) (countOf a)
-replyOf (read o n x) a = filling (numberOf a) (bytesOf a)
-replyOf (write o n at new) a = number (numberOf a)
-replyOf (rescind o n) a = number (numberOf a)
+replyOf (on o c) a = pageReply c a
 replyOf snapshot a = number (numberOf a)
 replyOf pageOut a = report (kindOf a) (numberOf a) (blockOf a)
 replyOf advance a = report (kindOf a) (numberOf a) (blockOf a)

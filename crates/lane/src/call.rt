@@ -21,7 +21,7 @@ use pages::write;
 use record::store::Store;
 ghost use mathlib.Core.Path.{_≡_};
 ghost use Rattle.frames.specs.Promise.{lent, numbered, reported};
-ghost use Rattle.pages.specs.Promise as call;
+ghost use Rattle.pages.specs.Call as call;
 ghost use Rattle.pages.specs.Promise.{answered, countedAs, foretoldAs, Kept, FormatKept};
 ghost use Rattle.record.specs.Meaning.{zeroStore};
 ghost use Rattle.lane.specs.Linked.{version, number, filling, present, foretelling, report, Linked};
@@ -60,7 +60,7 @@ pub extern "C" fn lane_key<'s, 'a>(
     memory: &'a [u8],
     oid: u32,
 ) -> Present
-    ensures { λ r. ⌜ Linked (call.key oid) (lent (now (s .entry)) (now (memory .entry)) (now (card .entry))) (present (r .refusal) (r .count)) (lent (now (s .exit)) (now (memory .entry)) (now (card .entry)))
+    ensures { λ r. ⌜ Linked (call.on oid call.key) (lent (now (s .entry)) (now (memory .entry)) (now (card .entry))) (present (r .refusal) (r .count)) (lent (now (s .exit)) (now (memory .entry)) (now (card .entry)))
         × (now (s .exit) ≡ now (s .entry)) ⌝ }
 {
     number::key(*s, card, memory, oid)
@@ -75,7 +75,7 @@ pub extern "C" fn lane_read<'s, 'a, 'b>(
     count: u32,
     buffer: &'b mut [u8],
 ) -> u32
-    ensures { λ r. ⌜ Linked (call.read oid count (now (buffer .entry))) (lent (now (s .entry)) (now (memory .entry)) (now (card .entry))) (filling r (now (buffer .exit)))
+    ensures { λ r. ⌜ Linked (call.on oid (call.read count (now (buffer .entry)))) (lent (now (s .entry)) (now (memory .entry)) (now (card .entry))) (filling r (now (buffer .exit)))
         (lent (now (s .exit)) (now (memory .entry)) (now (card .entry))) × (now (s .exit) ≡ now (s .entry)) ⌝ }
 {
     read::read(*s, card, memory, oid, count, buffer)
@@ -91,7 +91,7 @@ pub extern "C" fn lane_write(
     at: usize,
     new: &[u8],
 ) -> u32
-    ensures { λ r. ⌜ Linked (call.write oid count at (now (new .entry))) (lent (now (s .entry)) (now (memory .entry)) (now (card .entry))) (number r) (lent (now (s .exit)) (now (memory .exit)) (now (card .entry))) ⌝ }
+    ensures { λ r. ⌜ Linked (call.on oid (call.write count at (now (new .entry)))) (lent (now (s .entry)) (now (memory .entry)) (now (card .entry))) (number r) (lent (now (s .exit)) (now (memory .exit)) (now (card .entry))) ⌝ }
 {
     let d = write::write(*s, card, memory, oid, count, at, new);
     *s = d.store;
@@ -106,7 +106,7 @@ pub extern "C" fn lane_rescind(
     oid: u32,
     count: u32,
 ) -> u32
-    ensures { λ r. ⌜ Linked (call.rescind oid count) (lent (now (s .entry)) (now (memory .entry)) (now (card .entry))) (number r) (lent (now (s .exit)) (now (memory .exit)) (now (card .entry))) ⌝ }
+    ensures { λ r. ⌜ Linked (call.on oid (call.rescind count)) (lent (now (s .entry)) (now (memory .entry)) (now (card .entry))) (number r) (lent (now (s .exit)) (now (memory .exit)) (now (card .entry))) ⌝ }
 {
     let d = rescind::rescind(*s, card, memory, oid, count);
     *s = d.store;
@@ -149,7 +149,7 @@ pub extern "C" fn lane_forecast(s: &mut Store, card: &[u8], memory: &[u8]) -> Fo
 }
 
 pub fn key<'s, 'a>(s: &'s mut Store, card: &'a [u8], memory: &'a [u8], oid: u32) -> Count
-    ensures { λ r. ⌜ Kept (call.key oid) (lent (now (s .entry)) (now (memory .entry)) (now (card .entry))) (countedAs r) (lent (now (s .exit)) (now (memory .entry)) (now (card .entry))) ⌝ }
+    ensures { λ r. ⌜ Kept (call.on oid call.key) (lent (now (s .entry)) (now (memory .entry)) (now (card .entry))) (countedAs r) (lent (now (s .exit)) (now (memory .entry)) (now (card .entry))) ⌝ }
 {
     key::key(*s, card, memory, oid)
 }

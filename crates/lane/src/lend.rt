@@ -7,7 +7,7 @@ use frames::answer::Advanced;
 use frames::answer::Done;
 use record::store::Store;
 ghost use Rattle.frames.specs.Promise.{lent, reported};
-ghost use Rattle.pages.specs.Promise as call;
+ghost use Rattle.pages.specs.Call as call;
 ghost use Rattle.pages.specs.Promise.{answered, countedAs, foretoldAs, Kept};
 ghost use Rattle.record.specs.Meaning.{zeroStore};
 ghost use Rattle.lane.specs.Linked.{number, filling, Linked};
@@ -25,7 +25,7 @@ pub fn start(s: Store, card: &[u8], memory: &[u8]) -> Done
 }
 
 pub fn key<'a>(s: Store, card: &'a [u8], memory: &'a [u8], oid: u32) -> Counted
-    ensures { λ r. ⌜ Kept (call.key oid) (lent s (now (memory .entry)) (now (card .entry))) (countedAs (r .answer)) (lent (r .store) (now (memory .entry)) (now (card .entry))) ⌝ }
+    ensures { λ r. ⌜ Kept (call.on oid call.key) (lent s (now (memory .entry)) (now (card .entry))) (countedAs (r .answer)) (lent (r .store) (now (memory .entry)) (now (card .entry))) ⌝ }
 {
     let mut t = s;
     let c = call::key(&mut t, card, memory, oid);
@@ -43,7 +43,7 @@ pub fn read<'a>(
     count: u32,
     buffer: &mut [u8],
 ) -> Done
-    ensures { λ r. ⌜ Linked (call.read oid count (now (buffer .entry))) (lent s (now (memory .entry)) (now (card .entry))) (filling (r .answer) (now (buffer .exit)))
+    ensures { λ r. ⌜ Linked (call.on oid (call.read count (now (buffer .entry)))) (lent s (now (memory .entry)) (now (card .entry))) (filling (r .answer) (now (buffer .exit)))
         (lent (r .store) (now (memory .entry)) (now (card .entry))) ⌝ }
 {
     let mut t = s;
@@ -63,7 +63,7 @@ pub fn write(
     at: usize,
     new: &[u8],
 ) -> Done
-    ensures { λ r. ⌜ Linked (call.write oid count at (now (new .entry))) (lent s (now (memory .entry)) (now (card .entry))) (number (r .answer)) (lent (r .store) (now (memory .exit)) (now (card .entry))) ⌝ }
+    ensures { λ r. ⌜ Linked (call.on oid (call.write count at (now (new .entry)))) (lent s (now (memory .entry)) (now (card .entry))) (number (r .answer)) (lent (r .store) (now (memory .exit)) (now (card .entry))) ⌝ }
 {
     let mut t = s;
     let c = call::lane_write(&mut t, card, memory, oid, count, at, new);
@@ -74,7 +74,7 @@ pub fn write(
 }
 
 pub fn rescind(s: Store, card: &[u8], memory: &mut [u8], oid: u32, count: u32) -> Done
-    ensures { λ r. ⌜ Linked (call.rescind oid count) (lent s (now (memory .entry)) (now (card .entry))) (number (r .answer)) (lent (r .store) (now (memory .exit)) (now (card .entry))) ⌝ }
+    ensures { λ r. ⌜ Linked (call.on oid (call.rescind count)) (lent s (now (memory .entry)) (now (card .entry))) (number (r .answer)) (lent (r .store) (now (memory .exit)) (now (card .entry))) ⌝ }
 {
     let mut t = s;
     let c = call::lane_rescind(&mut t, card, memory, oid, count);

@@ -15,7 +15,8 @@ use pages::start;
 use record::store::Store;
 ghost use mathlib.Core.Path.{_≡_};
 ghost use Rattle.frames.specs.Promise.{lent, numbered};
-ghost use Rattle.pages.specs.Promise.{start, key, pageOut, advance, forecast, answered, Kept};
+ghost use Rattle.pages.specs.Call.{key, start, on, pageOut, advance, forecast};
+ghost use Rattle.pages.specs.Promise.{answered, Kept};
 ghost use Rattle.record.specs.Meaning.{zeroStore};
 ghost use Rattle.lane.specs.Linked.{present, foretelling, report, presentOf, foretoldOf, reportOf, Linked};
 
@@ -92,7 +93,7 @@ fn report(a: Advance) -> Report
 }
 
 pub fn key<'a>(s: Store, card: &'a [u8], memory: &'a [u8], oid: u32) -> Present
-    ensures { λ r. ⌜ Linked (key oid) (lent s (now (memory .entry)) (now (card .entry))) (present (r .refusal) (r .count)) (lent s (now (memory .entry)) (now (card .entry))) ⌝ }
+    ensures { λ r. ⌜ Linked (on oid key) (lent s (now (memory .entry)) (now (card .entry))) (present (r .refusal) (r .count)) (lent s (now (memory .entry)) (now (card .entry))) ⌝ }
 {
     let c = key::key(s, card, memory, oid);
     present(c)

@@ -14,8 +14,9 @@ use Rattle.frames.specs.Promise.{Lent, lent}
 use Rattle.pages.proofs.AnswerLaws.{block-done, block-none, kept-done, kept-refused}
 use Rattle.pages.proofs.RunLaws.{or-false}
 use Rattle.pages.specs.Book.{called, cutIn, cut, isFlush}
+use Rattle.pages.specs.Call.{Call, start, Answer, refused, done, counted, filled, wrote, foretold}
 use Rattle.pages.specs.Demand3.{World, lentTo, driveAfter, Step, calls, cutWithin, cutBetween}
-use Rattle.pages.specs.Promise.{Call, start, Answer, refused, done, counted, filled, wrote, foretold, asks, frameCall, doneAnswer, refusal, outcome, Kept}
+use Rattle.pages.specs.Promise.{asks, frameCall, doneAnswer, refusal, outcome, Kept}
 use Rattle.record.specs.Meaning.{zeroStore}
 use Rattle.recovery.proofs.Adversary.{either-way}
 use Rattle.recovery.specs.Step.{page, directory, trailer, migration, header, flush}

@@ -1,8 +1,8 @@
 -- What a call answers by its first "no", and its promise beside that of the frame call that it comes to.
 -- Assumes nothing.
-use Prim.Native.Nat.{ℕ, _+_, _-_, _≤_, _<_}
-use borrow.Author.Tests.{ltb-true, leb-true, eqb-true, eq-eqb}
-use lib.Dec.{leb, ltb, eqb}
+use Prim.Native.Nat.{ℕ, _-_, _<_}
+use borrow.Author.Tests.{eq-eqb}
+use lib.Dec.{eqb}
 use lib.ListN.{length, drop}
 use mathlib.Core.Bool.{Bool, true, false, cond}
 use mathlib.Core.List.{List, [], _++_}
@@ -10,7 +10,8 @@ use mathlib.Core.Logic.{_≢_}
 use mathlib.Core.Option.{none}
 use mathlib.Core.Path.{_≡_, refl, ap, sym, _∙_, subst}
 use native.Mathlib.Omega.{arith}
-use Rattle.card.proofs.QuestionLaws.{none-asked, asked-no, passed-both}
+use Rattle.card.proofs.QuestionLaws.{none-asked, asked-no, groups-passed}
+use Rattle.card.specs.Bytes.{All}
 use Rattle.card.specs.Question.{Question, firstNo}
 use Rattle.card.specs.declared.range.Address.{Address}
 use Rattle.card.specs.declared.range.Lookup.{Lookup}
@@ -18,7 +19,10 @@ use Rattle.card.specs.declared.range.Lookup.the-variants.{Located, Outside}
 use Rattle.frames.proofs.KeepLaws.{outcome-done, outcome-refused, keeps-refused, keeps-done, done-tells, refused-tells, back-card, back-memory}
 use Rattle.frames.proofs.ReadyLaws.{common-passed, common-both}
 use Rattle.frames.specs.Promise.{Lent, meaningOf, common, FrameAnswer, FrameKept}
-use Rattle.pages.specs.Promise.{Call, start, key, read, write, rescind, snapshot, pageOut, advance, forecast, Answer, answered, addressOf, atPlace, presentCount, writeChanges, rescindChanges, placed, asks, frameCall, doneAnswer, refusal, outcome, Kept}
+use Rattle.pages.specs.Call.{PageCall, key, read, write, rescind, Call, start, on, snapshot, pageOut, advance, forecast, Answer, pageAsks}
+use Rattle.pages.specs.Change.{atPlace}
+use Rattle.pages.specs.Page.{Page}
+use Rattle.pages.specs.Promise.{answered, addressOf, presentPage, callFrames, placed, asks, frameCall, doneAnswer, refusal, outcome, Kept}
 use Rattle.record.specs.Holds.{holdsTogether}
 use Rattle.recovery.specs.Contents.{FrameBytes}
 use Rattle.recovery.specs.Questions.{heldAsks, newPlaces, roomAsks}
@@ -32,10 +36,7 @@ use Rattle.frames.specs.Promise as frames
 -- every call but start
 abbrev pub Later : Call → Type 0
 Later (start m) = ⊥
-Later (key o) = Unit {0}
-Later (read o n x) = Unit {0}
-Later (write o n at new) = Unit {0}
-Later (rescind o n) = Unit {0}
+Later (on o c) = Unit {0}
 Later snapshot = Unit {0}
 Later pageOut = Unit {0}
 Later advance = Unit {0}
@@ -48,10 +49,7 @@ ownAsks c l = drop 3 (asks c l)
 asks-are : (c : Call) (l : Lent) → Later c → asks c l ≡ common l ++ ownAsks c l
 unfolding asks ownAsks heldAsks
 asks-are (start m) l k = absurd k
-asks-are (key o) l k = refl
-asks-are (read o n x) l k = refl
-asks-are (write o n at new) l k = refl
-asks-are (rescind o n) l k = refl
+asks-are (on o c) l k = refl
 asks-are snapshot l k = refl
 asks-are pageOut l k = refl
 asks-are advance l k = refl
@@ -69,36 +67,27 @@ unfolding atPlace
 found-place Outside rest e = absurd (omega (arith, sym (asked-no 9 false [] refl), e))
 found-place (Located p) rest e = (p, refl, e)
 
--- a write or a rescind that passes: its place, whose count is n, and room for its frames
-pub record WritePassed (l : Lent) (o n at : ℕ) (new : List ℕ) : Type 0 where
+-- no question has number 0
+pub asks-numbered : (c : PageCall) (x : Page) → All (λ (q : Question). 0 < q .number) (pageAsks c x)
+unfolding pageAsks
+asks-numbered key x = tt
+asks-numbered (read n b) x = (omega arith, (omega arith, tt))
+asks-numbered (write n at new) x = (omega arith, (omega arith, tt))
+asks-numbered (rescind n) x = (omega arith, (omega arith, tt))
+
+-- a call on a page that passes: its place, what is asked of the page, and room for its frames
+pub record Passed (o : ℕ) (c : PageCall) (l : Lent) : Type 0 where
   pub place : Address
   pub place-is : addressOf l o ≡ Located place
-  pub count-is : presentCount l place ≡ n
-  pub short : at + length new ≤ 512
-  pub room : firstNo (roomAsks (writeChanges l at new place) (meaningOf l)) ≡ 0
+  pub page : firstNo (pageAsks c (presentPage l place)) ≡ 0
+  pub room : firstNo (roomAsks (callFrames o c l) (meaningOf l)) ≡ 0
 
-pub record RescindPassed (l : Lent) (o n : ℕ) : Type 0 where
-  pub place : Address
-  pub place-is : addressOf l o ≡ Located place
-  pub count-is : presentCount l place ≡ n
-  pub few : n < 4294967295
-  pub room : firstNo (roomAsks (rescindChanges l place) (meaningOf l)) ≡ 0
-
-pub write-passed : (l : Lent) (o n at : ℕ) (new : List ℕ) → firstNo (ownAsks (write o n at new) l) ≡ 0 → WritePassed l o n at new
+pub on-passed : (o : ℕ) (c : PageCall) (l : Lent) → firstNo (ownAsks (on o c) l) ≡ 0 → Passed o c l
 unfolding ownAsks asks heldAsks
-write-passed l o n at new e =
+on-passed o c l e =
     let f = found-place (addressOf l o) _ e in
-    let count = passed-both 9 (eqb (presentCount l (f .0)) n) _ (f .2) in
-    let short = passed-both 10 (leb (at + length new) 512) _ (count .1) in
-    record { place = f .0; place-is = f .1; count-is = eqb-true _ _ (count .0); short = leb-true _ _ (short .0); room = short .1 }
-
-pub rescind-passed : (l : Lent) (o n : ℕ) → firstNo (ownAsks (rescind o n) l) ≡ 0 → RescindPassed l o n
-unfolding ownAsks asks heldAsks
-rescind-passed l o n e =
-    let f = found-place (addressOf l o) _ e in
-    let count = passed-both 9 (eqb (presentCount l (f .0)) n) _ (f .2) in
-    let few = passed-both 14 (ltb n 4294967295) _ (count .1) in
-    record { place = f .0; place-is = f .1; count-is = eqb-true _ _ (count .0); few = ltb-true _ _ (few .0); room = few .1 }
+    let q = groups-passed (pageAsks c (presentPage l (f .0))) (roomAsks (callFrames o c l) (meaningOf l)) (asks-numbered c (presentPage l (f .0))) (f .2) in
+    record { place = f .0; place-is = f .1; page = q .0; room = q .1 }
 
 -- ---- the frame call that a call comes to
 
@@ -113,18 +102,9 @@ module _ (l : Lent) where
   change-asked ws h r = common-passed (l .store) (length (l .memory)) (length (l .card)) (roomAsks ws (meaningOf l)) h ∙ r
 
   pub frames-asked : (c : Call) → firstNo (asks c l) ≡ 0 → firstNo (frames.asks (frameCall c l) l) ≡ 0
-  unfolding frameCall atPlace
+  unfolding frameCall
   frames-asked (start m) e = unfold asks frames.asks in e
-  frames-asked (key o) e = change-asked [] (asked-both (key o) l tt e .0) (change-none (meaningOf l) .0)
-  frames-asked (read o n x) e = change-asked [] (asked-both (read o n x) l tt e .0) (change-none (meaningOf l) .0)
-  frames-asked (write o n at new) e =
-      let q = asked-both (write o n at new) l tt e in
-      let f = write-passed l o n at new (q .1) in
-      rw (f .place-is) (change-asked (writeChanges l at new (f .place)) (q .0) (f .room))
-  frames-asked (rescind o n) e =
-      let q = asked-both (rescind o n) l tt e in
-      let f = rescind-passed l o n (q .1) in
-      rw (f .place-is) (change-asked (rescindChanges l (f .place)) (q .0) (f .room))
+  frames-asked (on o c) e = let q = asked-both (on o c) l tt e in change-asked (callFrames o c l) (q .0) (on-passed o c l (q .1) .room)
   frames-asked snapshot e = unfold asks frames.asks in e
   frames-asked pageOut e = unfold asks frames.asks in e
   frames-asked advance e = unfold asks frames.asks in e

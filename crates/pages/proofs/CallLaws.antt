@@ -9,7 +9,6 @@ use mathlib.Core.List.{List, [], _∷_, _++_}
 use mathlib.Core.Logic.{_≢_}
 use mathlib.Core.Path.{_≡_, refl, ap, sym, _∙_, subst}
 use native.Mathlib.Omega.{arith}
-use Rattle.card.proofs.QuestionLaws.{none-asked}
 use Rattle.card.specs.Bytes.{patch}
 use Rattle.card.specs.Pot.{countAt, flagsAt, putFlags, isZero, clearZero}
 use Rattle.card.specs.Question.{Question, firstNo}
@@ -20,9 +19,12 @@ use Rattle.frames.specs.Parts.{framesWith, ChangeKept, Foretells}
 use Rattle.frames.specs.Promise.{Lent, lent, meaningOf, common, FrameAnswer, FrameKept, numbered}
 use Rattle.frames.specs.declared.answer.Done.{Done}
 use Rattle.pages.proofs.AnswerLaws.{change-none, keeps-no, keeps-same, lifted}
-use Rattle.pages.proofs.NamedLaws.{Found, found-together, one-frame, two-frames, Stops, rest-asked, keyAsks, Keyed, keyed-asks}
-use Rattle.pages.specs.Page.{pageBytes, writeFrames, rescindPot, rescindFrames}
-use Rattle.pages.specs.Promise.{Call, start, key, read, write, rescind, snapshot, pageOut, advance, forecast, refused, done, counted, filled, answered, countedAs, foretoldAs, atPlace, presentFrames, presentCount, writeChanges, rescindChanges, asks, frameCall, doneAnswer, refusal, Kept, over, passedOf}
+use Rattle.pages.proofs.EditLaws.{frames-one}
+use Rattle.pages.proofs.NamedLaws.{Found, found-together, one-frame, two-frames, Stops, rest-asked, presentCount, keyAsks, Keyed, keyed-asks}
+use Rattle.pages.specs.Call.{PageCall, key, read, write, rescind, Call, start, on, snapshot, pageOut, advance, forecast, refused, done, counted, filled, pageAsks, edits, pageAnswer, pageRefusal}
+use Rattle.pages.specs.Change.{put, empty, writeFrames, rescindPot, changedFrames, atPlace, editFrames}
+use Rattle.pages.specs.Page.{pageBytes, pageOf}
+use Rattle.pages.specs.Promise.{answered, countedAs, foretoldAs, addressOf, presentFrames, callFrames, asks, frameCall, doneAnswer, refusal, Kept, over, passedOf}
 use Rattle.pages.specs.declared.answer.Count.the-variants.{Present, Refused}
 use Rattle.pages.specs.declared.answer.Forecast.the-variants as Forecasts
 use Rattle.record.specs.declared.store.Store.{Store}
@@ -70,32 +72,46 @@ unfolding foretoldAs doneAnswer
 forecast-done l n h moves e f = rw (f (over l) (l .memory) e)
     (keeps-same forecast l (unfold asks in h) (unfold frameCall in refl) (ready (l .store) (length (l .memory)) (length (l .card)) h .together))
 
+-- ---- a call on a page: 12 to 14 over its frames are asked last
+
+abbrev pub restAsks : ℕ → PageCall → Lent → List Question
+restAsks o c l = roomAsks (callFrames o c l) (meaningOf l)
+
+-- one that changes no frame
+module _ (l : Lent) (o : ℕ) (c : PageCall) (none : edits o c ≡ []) where
+  nothing : callFrames o c l ≡ []
+  unfolding callFrames editFrames
+  nothing = rw none
+
+  pub looked : {p : Address} → Found l o p → firstNo (asks (on o c) l) ≡ firstNo (restAsks o c l) → Kept (on o c) l (doneAnswer (on o c) l) l
+  unfolding frameCall
+  looked f e = keeps-same (on o c) l (e ∙ rw nothing (change-none (meaningOf l) .0)) (ap frames.change nothing) (found-together l o _ f)
+
 -- ---- key
 
 module _ (l : Lent) (o : ℕ) where
-  pub key-refused : {n : ℕ} → Stops l o (λ p. []) n → Kept (key o) l (countedAs (Refused n)) l
-  unfolding asks frameCall refusal countedAs
-  key-refused {n} q = keeps-no (key o) l n (q .number-is) (q .some)
+  pub key-refused : {n : ℕ} → Stops l o (λ p. restAsks o key l) n → Kept (on o key) l (countedAs (Refused n)) l
+  unfolding asks pageAsks frameCall refusal pageRefusal countedAs
+  key-refused {n} q = keeps-no (on o key) l n (q .number-is) (q .some)
 
-  pub key-done : (p : Address) → Found l o p → {pot : List ℕ} → pot ≡ presentFrames l (p .pot) → {count : ℕ} → count ≡ countAt pot (p .entry) → Kept (key o) l (countedAs (Present count)) l
-  unfolding asks frameCall doneAnswer countedAs atPlace
+  pub key-done : (p : Address) → Found l o p → {pot : List ℕ} → pot ≡ presentFrames l (p .pot) → {count : ℕ} → count ≡ countAt pot (p .entry) → Kept (on o key) l (countedAs (Present count)) l
+  unfolding asks pageAsks doneAnswer pageAnswer countedAs atPlace edits pageOf
   key-done p f pot-is {count} count-is =
-      let answer : doneAnswer (key o) l ≡ counted count = rw (f .place-is) (ap counted (sym (count-is ∙ ap (λ (x : List ℕ). countAt x (p .entry)) pot-is))) in
-      rw (← answer) (keeps-same (key o) l (rest-asked l o (λ q. []) p f ∙ none-asked) refl (found-together l o p f))
+      let answer : doneAnswer (on o key) l ≡ counted count = rw (f .place-is) (ap counted (sym (count-is ∙ ap (λ (x : List ℕ). countAt x (p .entry)) pot-is))) in
+      rw (← answer) (looked l o key refl f (rest-asked l o (λ q. restAsks o key l) p f))
 
 -- ---- read
 
 module _ (l : Lent) (o count : ℕ) (x : List ℕ) where
-  pub read-refused : {n : ℕ} → Stops l o (λ p. keyAsks (presentCount l p) count 11 (eqb (length x) 512) ++ []) n → Kept (read o count x) l (filled n x) l
-  unfolding asks frameCall refusal
-  read-refused {n} q = keeps-no (read o count x) l n (q .number-is) (q .some)
+  pub read-refused : {n : ℕ} → Stops l o (λ p. keyAsks (presentCount l p) count 11 (eqb (length x) 512) ++ restAsks o (read count x) l) n → Kept (on o (read count x)) l (filled n x) l
+  unfolding asks pageAsks frameCall refusal pageRefusal pageOf
+  read-refused {n} q = keeps-no (on o (read count x)) l n (q .number-is) (q .some)
 
-  pub read-done : (p : Address) (pot : List ℕ) → Keyed l o count p pot (eqb (length x) 512) → {y : List ℕ} → y ≡ pageBytes (presentFrames l) p → Kept (read o count x) l (filled 0 y) l
-  unfolding asks frameCall doneAnswer atPlace
+  pub read-done : (p : Address) (pot : List ℕ) → Keyed l o count p pot (eqb (length x) 512) → {y : List ℕ} → y ≡ pageBytes (presentFrames l) p → Kept (on o (read count x)) l (filled 0 y) l
+  unfolding asks pageAsks doneAnswer pageAnswer atPlace edits pageOf
   read-done p pot k {y} e =
-      let answer : doneAnswer (read o count x) l ≡ filled 0 y = rw (k .found .place-is) (ap (filled 0) (sym e)) in
-      rw (← answer)
-      (keeps-same (read o count x) l (keyed-asks l o count p pot 11 (eqb (length x) 512) (λ q. []) k ∙ none-asked) refl (found-together l o p (k .found)))
+      let answer : doneAnswer (on o (read count x)) l ≡ filled 0 y = rw (k .found .place-is) (ap (filled 0) (sym e)) in
+      rw (← answer) (looked l o (read count x) refl (k .found) (keyed-asks l o count p pot 11 (eqb (length x) 512) (λ q. restAsks o (read count x) l) k))
 
 -- ---- calls that answer by number, in a record `d` with the store that they leave
 
@@ -122,75 +138,81 @@ change-kept c l ws call passed asked ends same names bytes are {n} {t} {after} k
 -- ---- rescind
 
 module _ (l : Lent) (o count : ℕ) where
-  abbrev rescindRest : Address → List Question
-  rescindRest p = roomAsks (rescindChanges l p) (meaningOf l)
-
-  pub rescind-refused : {n : ℕ} → Stops l o (λ p. keyAsks (presentCount l p) count 15 (ltb count 4294967295) ++ rescindRest p) n
-      → {d : Done} → (d .answer ≡ n) × (d .store ≡ l .store) → Kept (rescind o count) l (answered (numbered (d .answer))) (lent (d .store) (l .memory) (l .card))
-  unfolding asks frameCall refusal
-  rescind-refused q is = refused-by (rescind o count) l (λ k. refl) refl (q .number-is) (q .some) is
+  pub rescind-refused : {n : ℕ} → Stops l o (λ p. keyAsks (presentCount l p) count 15 (ltb count 4294967295) ++ restAsks o (rescind count) l) n
+      → {d : Done} → (d .answer ≡ n) × (d .store ≡ l .store) → Kept (on o (rescind count)) l (answered (numbered (d .answer))) (lent (d .store) (l .memory) (l .card))
+  unfolding asks pageAsks frameCall refusal pageRefusal pageOf
+  rescind-refused q is = refused-by (on o (rescind count)) l (λ k. refl) refl (q .number-is) (q .some) is
 
   module _ (p : Address) (pot : List ℕ) (k : Keyed l o count p pot (ltb count 4294967295)) where
     -- the count can rise
     pub rescind-few : countAt pot (p .entry) < 4294967295
     rescind-few = omega (arith, k .count-is, ltb-true count 4294967295 (k .own-is))
 
+    rescind-frames : callFrames o (rescind count) l ≡ changedFrames empty (presentFrames l) p
+    unfolding callFrames edits
+    rescind-frames = frames-one (addressOf l) o p (k .found .place-is) empty (presentFrames l)
+
     pub rescind-done : {f : ℕ} → f ≡ p .pot → (x : List ℕ) → length x ≡ 512 → x ≡ rescindPot pot (p .entry) → {n : ℕ} {t : Store} {after : List ℕ}
         → ChangeKept (l .store) (l .memory) (f ∷ []) x n t after → {d : Done} → (d .answer ≡ n) × (d .store ≡ t)
-        → Kept (rescind o count) l (answered (numbered (d .answer))) (lent (d .store) after (l .card))
-    unfolding asks frameCall doneAnswer refusal atPlace rescindChanges rescindFrames
+        → Kept (on o (rescind count)) l (answered (numbered (d .answer))) (lent (d .store) after (l .card))
+    unfolding asks pageAsks frameCall refusal pageRefusal pageOf
     rescind-done {f} name x long x-is c is =
-        change-kept (rescind o count) l (rescindChanges l p) (rw (k .found .place-is) refl) (k .found .passed) (keyed-asks l o count p pot 15 _ rescindRest k) refl (λ q. refl)
-        (f ∷ []) x (one-frame f x long ∙ rw (name, x-is, k .pot-is) refl) c is
+        change-kept (on o (rescind count)) l (callFrames o (rescind count) l) refl (k .found .passed) (keyed-asks l o count p pot 15 _ (λ q. restAsks o (rescind count) l) k) ends (λ q. refl)
+        (f ∷ []) x (one-frame f x long ∙ pot-named ∙ sym rescind-frames) c is
+      where
+        pot-named : record { frame = f; bytes = x } ∷ [] ≡ changedFrames empty (presentFrames l) p
+        pot-named = unfold changedFrames in (rw (name, x-is, k .pot-is) refl)
+
+        ends : doneAnswer (on o (rescind count)) l ≡ done
+        ends = unfold doneAnswer pageAnswer atPlace in (rw (k .found .place-is))
 
 -- ---- write
 
 module _ (l : Lent) (o count at : ℕ) (new : List ℕ) where
-  abbrev writeRest : Address → List Question
-  writeRest p = roomAsks (writeChanges l at new p) (meaningOf l)
-
-  pub write-refused : {n : ℕ} → Stops l o (λ p. keyAsks (presentCount l p) count 11 (leb (at + length new) 512) ++ writeRest p) n
-      → {d : Done} → (d .answer ≡ n) × (d .store ≡ l .store) → Kept (write o count at new) l (answered (numbered (d .answer))) (lent (d .store) (l .memory) (l .card))
-  unfolding asks frameCall refusal
-  write-refused q is = refused-by (write o count at new) l (λ k. refl) refl (q .number-is) (q .some) is
+  pub write-refused : {n : ℕ} → Stops l o (λ p. keyAsks (presentCount l p) count 11 (leb (at + length new) 512) ++ restAsks o (write count at new) l) n
+      → {d : Done} → (d .answer ≡ n) × (d .store ≡ l .store) → Kept (on o (write count at new)) l (answered (numbered (d .answer))) (lent (d .store) (l .memory) (l .card))
+  unfolding asks pageAsks frameCall refusal pageRefusal pageOf
+  write-refused q is = refused-by (on o (write count at new)) l (λ k. refl) refl (q .number-is) (q .some) is
 
   module _ (p : Address) (pot : List ℕ) (k : Keyed l o count p pot (leb (at + length new) 512)) where
-    write-room : firstNo (asks (write o count at new) l) ≡ firstNo (roomAsks (writeChanges l at new p) (meaningOf l))
-    unfolding asks
-    write-room = keyed-asks l o count p pot 11 _ writeRest k
+    write-room : firstNo (asks (on o (write count at new)) l) ≡ firstNo (restAsks o (write count at new) l)
+    unfolding asks pageAsks pageOf
+    write-room = keyed-asks l o count p pot 11 _ (λ q. restAsks o (write count at new) l) k
 
-    write-call : frameCall (write o count at new) l ≡ frames.change (writeChanges l at new p)
-    unfolding frameCall atPlace
-    write-call = rw (k .found .place-is) refl
+    write-ends : doneAnswer (on o (write count at new)) l ≡ done
+    unfolding doneAnswer pageAnswer atPlace
+    write-ends = rw (k .found .place-is)
 
     -- no bytes: no frame changes
     pub write-nothing : length new ≡ 0 → {n : ℕ} → n ≡ 0 → {d : Done} → (d .answer ≡ n) × (d .store ≡ l .store)
-        → Kept (write o count at new) l (answered (numbered (d .answer))) (lent (d .store) (l .memory) (l .card))
-    unfolding doneAnswer writeChanges
+        → Kept (on o (write count at new)) l (answered (numbered (d .answer))) (lent (d .store) (l .memory) (l .card))
     write-nothing e z is =
-        let nothing : writeChanges l at new p ≡ [] = rw (eq-eqb (length new) 0 e) in
-        rw (is .0, is .1, z, answered-done)
-        (keeps-same (write o count at new) l (write-room ∙ (rw nothing (change-none (meaningOf l) .0))) (write-call ∙ ap frames.change nothing) (found-together l o p (k .found)))
+        let none : edits o (write count at new) ≡ [] = unfold edits in (rw (eq-eqb (length new) 0 e)) in
+        rw (is .0, is .1, z, answered-done, ← write-ends) (looked l o (write count at new) none (k .found) write-room)
+
+    write-frames : length new ≢ 0 → callFrames o (write count at new) l ≡ writeFrames (presentFrames l) p at new
+    unfolding callFrames edits changedFrames
+    write-frames some = rw (ne-eqb (length new) 0 some) (frames-one (addressOf l) o p (k .found .place-is) (put at new) (presentFrames l))
 
     module _ (some : length new ≢ 0) (x : List ℕ) (x-long : length x ≡ 512) (x-is : x ≡ patch (pageBytes (presentFrames l) p) at new) {n : ℕ} {t : Store} {after : List ℕ}
         {d : Done} (d-is : (d .answer ≡ n) × (d .store ≡ t)) where
       write-kept : (names bytes : List ℕ) → framesWith names bytes ≡ writeFrames (presentFrames l) p at new → ChangeKept (l .store) (l .memory) names bytes n t after
-          → Kept (write o count at new) l (answered (numbered (d .answer))) (lent (d .store) after (l .card))
-      unfolding doneAnswer refusal writeChanges
+          → Kept (on o (write count at new)) l (answered (numbered (d .answer))) (lent (d .store) after (l .card))
+      unfolding frameCall refusal pageRefusal
       write-kept names bytes are c =
-          change-kept (write o count at new) l (writeChanges l at new p) write-call (k .found .passed) write-room refl (λ q. refl)
-          names bytes (are ∙ rw (ne-eqb (length new) 0 some) refl) c d-is
+          change-kept (on o (write count at new)) l (callFrames o (write count at new) l) refl (k .found .passed) write-room write-ends (λ q. refl)
+          names bytes (are ∙ sym (write-frames some)) c d-is
 
       -- the flag is clear: the page alone
       pub write-page : isZero (flagsAt pot (p .entry)) ≡ false → {f : ℕ} → f ≡ p .page → ChangeKept (l .store) (l .memory) (f ∷ []) x n t after
-          → Kept (write o count at new) l (answered (numbered (d .answer))) (lent (d .store) after (l .card))
+          → Kept (on o (write count at new)) l (answered (numbered (d .answer))) (lent (d .store) after (l .card))
       unfolding writeFrames
       write-page flag {f} name c = write-kept (f ∷ []) x (one-frame f x x-long ∙ rw (name, x-is, ← k .pot-is, flag) refl) c
 
       -- it is set: the page, then the pot
       pub write-both : isZero (flagsAt pot (p .entry)) ≡ true → (y : List ℕ) → length y ≡ 512 → y ≡ putFlags pot (p .entry) (clearZero (flagsAt pot (p .entry)))
           → {f g : ℕ} → f ≡ p .page → g ≡ p .pot → {both : List ℕ} → both ≡ x ++ y → ChangeKept (l .store) (l .memory) (f ∷ g ∷ []) both n t after
-          → Kept (write o count at new) l (answered (numbered (d .answer))) (lent (d .store) after (l .card))
+          → Kept (on o (write count at new)) l (answered (numbered (d .answer))) (lent (d .store) after (l .card))
       unfolding writeFrames
       write-both flag y y-long y-is {f} {g} name other {both} both-is c =
           write-kept (f ∷ g ∷ []) both (ap (framesWith (f ∷ g ∷ [])) both-is ∙ two-frames f g x y x-long y-long ∙ rw (name, other, x-is, y-is, ← k .pot-is, flag) refl) c

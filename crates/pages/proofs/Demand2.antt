@@ -20,12 +20,14 @@ use Rattle.frames.proofs.WorldLaws.{Standing, live, LentOk, done-follows, done-
 use Rattle.frames.specs.Promise.{Lent, lent, meaningOf, FrameKept}
 use Rattle.pages.proofs.AnswerLaws.{Later, asked-both, asked-own, frames-asked, kept-done, kept-refused, lowered}
 use Rattle.pages.proofs.LedgerLaws.{nonePending, someChange}
-use Rattle.pages.proofs.PlainLaws.{InStep, same-asks, agrees}
+use Rattle.pages.proofs.PlainLaws.{InStep, same-number, agrees}
 use Rattle.pages.proofs.Represents.{accepted-full}
+use Rattle.pages.specs.Call.{Call, start, on, snapshot, pageOut, advance, forecast, Answer, refused, done}
+use Rattle.pages.specs.Change.{atPlace}
 use Rattle.pages.specs.Demand2.{plainAnswers, plainCard, NoStart, Calls, finished, next, Demand2}
 use Rattle.pages.specs.Needed.{needed}
 use Rattle.pages.specs.Plain.{Plain, blank, plainOf, plainAsks, PlainOutcome, answers, plainDone, plainDoes}
-use Rattle.pages.specs.Promise.{Call, start, key, read, write, rescind, snapshot, pageOut, advance, forecast, Answer, refused, done, atPlace, asks, frameCall, refusal, Kept}
+use Rattle.pages.specs.Promise.{asks, frameCall, refusal, Kept}
 use Rattle.record.specs.Meaning.{zeroStore}
 use Rattle.recovery.proofs.Follows.{Stored, Follows}
 use Rattle.recovery.proofs.FrameTheorem.{allNeeded, accepted-stored, stored-long}
@@ -37,10 +39,7 @@ use Rattle.frames.specs.Promise as frames
 
 pub later : (c : Call) → ((m : List ℕ) → c ≡ start m → ⊥) → Later c
 later (start m) h = h m refl
-later (key o) h = tt
-later (read o n x) h = tt
-later (write o n at new) h = tt
-later (rescind o n) h = tt
+later (on o c) h = tt
 later snapshot h = tt
 later pageOut h = tt
 later advance h = tt
@@ -53,10 +52,7 @@ module _ (rs : List Range) (blocks area : ℕ) (full : blocks ≡ 1 + area + all
   lent-held : (c : Call) (l : Lent) (b : FrameBook) → Later c → Standing (needed rs area) blocks area rs l b → LentOk (needed rs area) blocks area rs (frameCall c l) l b × (frames.handedBack (frameCall c l) l ≡ l)
   unfolding frameCall
   lent-held (start m) l b k h = absurd k
-  lent-held (key o) l b k h = (h, refl)
-  lent-held (read o n x) l b k h = (h, refl)
-  lent-held (write o n at new) l b k h = (h, refl)
-  lent-held (rescind o n) l b k h = (h, refl)
+  lent-held (on o c) l b k h = (h, refl)
   lent-held snapshot l b k h = (h, refl)
   lent-held pageOut l b k h = (h, refl)
   lent-held advance l b k h = (h, refl)
@@ -101,7 +97,7 @@ module _ (rs : List Range) (blocks area : ℕ) (full : blocks ≡ 1 + area + all
     one-call = rw (← number-is) (byTest Same (eqb (firstNo (asks c l)) 0) (λ e. done-one (eqb-true _ _ e)) (λ e. refused-one (eqb-false _ _ e)))
       where
         number-is : firstNo (asks c l) ≡ firstNo (plainAsks c t)
-        number-is = asked-own c l k (b .passes) ∙ ap firstNo (same-asks rs blocks area full l t b c k)
+        number-is = asked-own c l k (b .passes) ∙ same-number rs blocks area full l t b c k
 
   all-calls : (cs : List Call) (l : Lent) (as′ : List Answer) (l′ : Lent) → Calls cs l as′ l′ → NoStart cs → (t : Plain) → InStep rs blocks area full l t
       → (as′ ≡ plainAnswers cs t) × (l′ .card ≡ plainCard cs t (l .card))

@@ -2,17 +2,18 @@
 -- Assumes nothing.
 use Prim.Native.Nat.{ℕ, zero, suc, _+_, _/_, _<_}
 use borrow.Author.Tests.{eq-eqb}
+use lib.Dec.{eqb}
 use lib.ListN.{length}
 use mathlib.Core.Bool.{true, false, false≢true}
-use mathlib.Core.List.{List, []}
+use mathlib.Core.List.{List, [], _∷_}
 use mathlib.Core.Option.{none, some}
 use mathlib.Core.Path.{_≡_, refl, ap, sym, _∙_}
 use native.Mathlib.Omega.{arith}
 use Rattle.card.proofs.AddressLaws.{located}
-use Rattle.card.proofs.QuestionLaws.{none-asked, asked-yes}
+use Rattle.card.proofs.QuestionLaws.{none-asked, asked-yes, group-yes}
 use Rattle.card.specs.Block.{blockAt, whole}
 use Rattle.card.specs.Header.{headerOn}
-use Rattle.card.specs.Question.{firstNo, headerRanges}
+use Rattle.card.specs.Question.{ask, firstNo, headerRanges}
 use Rattle.card.specs.Range.{locate}
 use Rattle.card.specs.declared.range.Address.{Address}
 use Rattle.card.specs.declared.range.Lookup.{Lookup}
@@ -21,13 +22,15 @@ use Rattle.frames.proofs.ReadyLaws.{has-frames}
 use Rattle.frames.proofs.Recovery.{frames-recover}
 use Rattle.frames.proofs.Run.{startLent, stays, firstWorld, Serves}
 use Rattle.frames.specs.Promise.{Lent, lent, meaningOf, common, FrameAnswer, FrameKept}
-use Rattle.pages.proofs.AnswerLaws.{ownAsks, asked-own, change-none, block-done, kept-done, lowered}
+use Rattle.pages.proofs.AnswerLaws.{ownAsks, asked-own, asks-numbered, change-none, block-done, kept-done, lowered}
 use Rattle.pages.proofs.FormatLaws.{format-area, format-ranges, format-accepted, format-shows, format-done}
 use Rattle.pages.proofs.RunLaws.{Beside, or-false, serves, address-is, page-shown, called-beside, run-beside, spoilt-run, needs}
 use Rattle.pages.specs.Book.{Book, Event, formatBook, isDone, isFlush, told, bookAfter}
+use Rattle.pages.specs.Call.{PageCall, key, read, start, on, Answer, done, counted, filled, pageAsks, edits, pageAnswer}
+use Rattle.pages.specs.Change.{applied, atPlace, editFrames}
 use Rattle.pages.specs.Demand3.{World, Run, OfRanges, Shows, Demand3, Demand3Spoilt}
-use Rattle.pages.specs.Page.{Page, emptyPage, pageOf, formatCard}
-use Rattle.pages.specs.Promise.{start, key, read, Answer, done, counted, filled, addressOf, atPlace, presentFrames, asks, frameCall, doneAnswer, outcome, Kept, rangesIn, formatAsks, FormatKept}
+use Rattle.pages.specs.Page.{emptyPage, pageOf, formatCard}
+use Rattle.pages.specs.Promise.{addressOf, presentPage, callFrames, asks, frameCall, doneAnswer, outcome, Kept, rangesIn, formatAsks, FormatKept}
 use Rattle.record.specs.Meaning.{zeroStore}
 use Rattle.recovery.proofs.FrameTheorem.{allNeeded, accepted-stored, stored-long}
 use Rattle.recovery.specs.Questions.{startAsks, heldAsks}
@@ -52,28 +55,35 @@ module _ (m₀ card₀ : List ℕ) (accepted : firstNo (startAsks m₀ card₀) 
     place-is : addressOf l o ≡ Located p
     place-is = address-is m₀ card₀ accepted w b s l held low o ∙ at-p
 
-    page-is : pageOf (presentFrames l) p ≡ b .present o
+    page-is : presentPage l p ≡ b .present o
     page-is = page-shown m₀ card₀ accepted w b s l held low o p at-p
 
-    key-passes : firstNo (asks (key o) l) ≡ 0
-    unfolding ownAsks asks heldAsks atPlace
-    key-passes = asked-own (key o) l tt passes ∙ rw place-is none-asked
+    -- a call that changes no frame, and passes what is asked of the page
+    passes-on : (c : PageCall) → edits o c ≡ [] → firstNo (pageAsks c (b .present o)) ≡ 0 → firstNo (asks (on o c) l) ≡ 0
+    unfolding ownAsks asks heldAsks atPlace callFrames editFrames
+    passes-on c nothing ok = asked-own (on o c) l tt passes ∙ rw (place-is, nothing, page-is)
+        (group-yes (pageAsks c (b .present o)) _ (asks-numbered c (b .present o)) ok ∙ change-none (meaningOf l) .0)
 
-    key-shows : (a : Answer) (l′ : Lent) → Kept (key o) l a l′ → (a ≡ counted (b .present o .count)) × (0 < l′ .store .frames)
-    unfolding doneAnswer atPlace frameCall frames.after pageOf
+    answers-on : (c : PageCall) → firstNo (asks (on o c) l) ≡ 0 → (a : Answer) (l′ : Lent) → Kept (on o c) l a l′ → a ≡ pageAnswer c (b .present o)
+    unfolding doneAnswer atPlace
+    answers-on c ok a l′ k = kept-done (on o c) l l′ a k ok .0 ∙ rw place-is (ap (pageAnswer c) page-is)
+
+    key-passes : firstNo (asks (on o key) l) ≡ 0
+    unfolding edits pageAsks
+    key-passes = passes-on key refl none-asked
+
+    key-shows : (a : Answer) (l′ : Lent) → Kept (on o key) l a l′ → (a ≡ counted (b .present o .count)) × (0 < l′ .store .frames)
+    unfolding pageAnswer frameCall callFrames edits editFrames frames.after
     key-shows a l′ k =
         let frames-is : l′ .store .frames ≡ l .store .frames = ap (λ (x : State). x .memoryFrames) (k .meaning key-passes ∙ change-none (meaningOf l) .1) in
-        (kept-done (key o) l l′ a k key-passes .0 ∙ rw place-is (ap (λ (x : Page). counted (x .count)) page-is), omega (arith, frames-is, low))
+        (answers-on key key-passes a l′ k, omega (arith, frames-is, low))
 
-    read-passes : (buffer : List ℕ) → length buffer ≡ 512 → firstNo (asks (read o (b .present o .count) buffer) l) ≡ 0
-    unfolding ownAsks asks heldAsks atPlace pageOf
-    read-passes buffer long = asked-own (read o (b .present o .count) buffer) l tt passes
-        ∙ rw place-is (asked-yes 10 _ _ (eq-eqb _ _ (ap (λ (x : Page). x .count) page-is)) ∙ asked-yes 11 _ [] (eq-eqb _ _ long) ∙ none-asked)
-
-    read-shows : (buffer : List ℕ) → length buffer ≡ 512 → (a : Answer) (l′ : Lent) → Kept (read o (b .present o .count) buffer) l a l′ → a ≡ filled 0 (b .present o .bytes)
-    unfolding doneAnswer atPlace pageOf
+    read-shows : (buffer : List ℕ) → length buffer ≡ 512 → (a : Answer) (l′ : Lent) → Kept (on o (read (b .present o .count) buffer)) l a l′ → a ≡ filled 0 (b .present o .bytes)
+    unfolding pageAnswer edits pageAsks
     read-shows buffer long a l′ k =
-        kept-done (read o (b .present o .count) buffer) l l′ a k (read-passes buffer long) .0 ∙ rw place-is (ap (λ (x : Page). filled 0 (x .bytes)) page-is)
+        let n = b .present o .count in
+        let ok = asked-yes 10 (eqb n n) (ask 11 (eqb (length buffer) 512) ∷ []) (eq-eqb n n refl) ∙ asked-yes 11 _ [] (eq-eqb _ _ long) ∙ none-asked in
+        answers-on (read n buffer) (passes-on (read n buffer) refl ok) a l′ k
 
   -- ---- a start
 
@@ -111,10 +121,10 @@ module _ (m₀ card₀ : List ℕ) (accepted : firstNo (startAsks m₀ card₀) 
           none-written = block-done (start m) (lent zeroStore m (seen (w .drive))) start-passes
 
       start-shows : (o : ℕ) (p : Address) → placeOn card₀ o ≡ Located p → Shows l o (b .kept o)
-      unfolding told
+      unfolding told isDone edits applied
       start-shows o p at-p x y l₁ l₂ buffer long kx ky =
           let q = key-shows _ _ after-start l refl (has-frames l (started .1 .passes)) o p at-p x l₁ kx in
-          let after-key = called-beside m₀ card₀ accepted _ _ after-start (key o) x l l₁ refl kx in
+          let after-key = rw (q .0) at (called-beside m₀ card₀ accepted _ _ after-start (on o key) x l l₁ refl kx) in
           (q .0, read-shows _ _ after-key l₁ refl (q .1) o p at-p buffer long y l₂ ky)
 
 -- ---- a formatted card

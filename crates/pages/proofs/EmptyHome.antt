@@ -16,8 +16,9 @@ use Rattle.card.specs.Question.{firstNo, headerRanges}
 use Rattle.card.specs.Range.{Range, allBlocks, locate}
 use Rattle.card.specs.declared.range.Address.{Address}
 use Rattle.card.specs.declared.range.Lookup.the-variants.{Located}
+use Rattle.pages.proofs.EditLaws.{in-p, page-alike}
 use Rattle.pages.proofs.NeededLaws.{oid-needed}
-use Rattle.pages.proofs.Represents.{accepted-full, in-p, page-same}
+use Rattle.pages.proofs.Represents.{accepted-full}
 use Rattle.pages.specs.Needed.{needed}
 use Rattle.pages.specs.Page.{Page, flagged, pageBytes, pageOf}
 use Rattle.recovery.proofs.Accept.{told}
@@ -71,11 +72,7 @@ module _ (m card : List ℕ) (accepted : firstNo (startAsks m card) ≡ 0) where
         reads-present blocks area rs (startState m other) other (bookStart book) follows f low high t
 
     same-pages : (u : ℕ) (q : Address) → locate rs (1 + area) u ≡ Located q → pageOf (shown m other) q ≡ pageOf (shown m card) q
-    same-pages u q at-q =
-        let inside : Within (1 + area) blocks q = in-p rs blocks area full u q at-q in
-        let needs = oid-needed rs area blocks full (shown m card) u q at-q in
-        page-same (shown m other) (shown m card) q (frame-same (q .pot) (omega (arith, inside)) (omega (arith, inside)) (needs .1))
-        (λ clear. frame-same (q .page) (omega (arith, inside)) (omega (arith, inside)) (needs .0 ∙ ap not clear))
+    same-pages u q at-q = page-alike rs blocks area full (shown m other) (shown m card) frame-same u q at-q
 
     -- THE LAW: whatever bytes stand at the homes of empty pages, start accepts and shows the same pages and counts
     pub any-home : (firstNo (startAsks m other) ≡ 0) × ((u : ℕ) (q : Address) → locate rs (1 + area) u ≡ Located q → pageOf (shown m other) q ≡ pageOf (shown m card) q)

@@ -1,7 +1,7 @@
 -- THE FORECAST HOLDS, by demand 2's machine: what it has still to make until the pending snapshot is safe is a list; an
 -- advance reports its first kind and leaves the rest, and every other call of the claim leaves it.
 -- Assumes nothing.
-use Prim.Native.Nat.{ℕ, zero, suc, _+_, _-_, _≤_, _<_}
+use Prim.Native.Nat.{ℕ, zero, suc, _+_, _≤_, _<_}
 use borrow.Author.Tests.{eq-eqb, ne-eqb}
 use lib.Dec.{eqb}
 use lib.ListN.{length, getD}
@@ -24,10 +24,12 @@ use Rattle.pages.proofs.Demand2 as demand
 use Rattle.pages.proofs.LedgerLaws.{nonePending, kind-phase}
 use Rattle.pages.proofs.PlainLaws.{InStep}
 use Rattle.pages.specs.Book.{isDone, isHeader, isFlush}
+use Rattle.pages.specs.Call.{key, read, write, rescind, Call, start, on, snapshot, pageOut, advance, forecast, Answer, refused, done, wrote, foretold, edits}
+use Rattle.pages.specs.Change.{Edit}
 use Rattle.pages.specs.Demand2.{NoStart, Calls, finished, next}
 use Rattle.pages.specs.ForecastHolds.{MayStand, Undisturbed, ofAdvance, advances, Foreseen, ForecastHolds}
-use Rattle.pages.specs.Plain.{Plain, blankGeneration, blank, phaseAfter, ledgerOf, isNone, plainAddress, plainOver, plainPast, plainAsks, PlainOutcome, plainWrite, plainRescind, plainAdvance, plainKind, plainDone, plainDoes}
-use Rattle.pages.specs.Promise.{Call, start, key, read, write, rescind, snapshot, pageOut, advance, forecast, Answer, refused, done, wrote, foretold, atPlace, refusal, Kept}
+use Rattle.pages.specs.Plain.{Plain, blankGeneration, blank, phaseAfter, ledgerOf, isNone, plainOver, plainPast, plainAsks, PlainOutcome, plainEdits, plainAdvance, plainKind, plainDone, plainDoes}
+use Rattle.pages.specs.Promise.{refusal, Kept}
 use Rattle.recovery.proofs.ForecastLaws as laws
 use Rattle.recovery.proofs.SumLaws.{same-due, given-first}
 use Rattle.recovery.specs.Questions.{given}
@@ -75,23 +77,15 @@ flush-kind k b e = rw e refl
 module _ (t : Plain) where
   -- ---- a call that is no advance
 
-  write-same : (o at : ℕ) (new : List ℕ) (x : Lookup) → listed t ≡ listed (atPlace t x (plainWrite o at new t))
-  unfolding atPlace plainWrite afterChange
-  write-same o at new Outside = refl
-  write-same o at new (Located p) = byTest (λ (u : Plain). listed t ≡ listed u) (eqb (length new) 0) (λ e. refl) (λ e. sym (laws.commit-change (plainOver t) _ (ledgerOf t)))
-
-  rescind-same : (o : ℕ) (x : Lookup) → listed t ≡ listed (atPlace t x (plainRescind o t))
-  unfolding atPlace plainRescind afterChange
-  rescind-same o Outside = refl
-  rescind-same o (Located p) = sym (laws.commit-change (plainOver t) _ (ledgerOf t))
+  edits-same : (es : List Edit) → listed t ≡ listed (plainEdits es t)
+  unfolding plainEdits afterChange
+  edits-same [] = refl
+  edits-same (e ∷ es) = sym (laws.commit-change (plainOver t) _ (ledgerOf t))
 
   -- every call but advance
   abbrev Other : Call → Type 0
   Other (start m) = Unit {0}
-  Other (key o) = Unit {0}
-  Other (read o n x) = Unit {0}
-  Other (write o n at new) = Unit {0}
-  Other (rescind o n) = Unit {0}
+  Other (on u c) = Unit {0}
   Other snapshot = Unit {0}
   Other pageOut = Unit {0}
   Other advance = ⊥
@@ -100,10 +94,7 @@ module _ (t : Plain) where
   done-same : (c : Call) → Other c → MayStand c (plainDone c t .answer) → listed t ≡ listed (plainDone c t .next)
   unfolding plainDone isDone
   done-same (start m) o k = absurd k
-  done-same (key u) o k = refl
-  done-same (read u n x) o k = refl
-  done-same (write u n at new) o k = write-same u at new (plainAddress t u)
-  done-same (rescind u n) o k = rescind-same u (plainAddress t u)
+  done-same (on u c) o k = edits-same (edits u c)
   done-same snapshot o k = absurd (false≢true (sym k))
   done-same pageOut o k = absurd (false≢true (sym k))
   done-same advance o k = absurd o
@@ -178,25 +169,19 @@ foreseen-later n i a f = record {
 -- what may stand is no less than is said: every refused call but a start, and six calls whatever they answer
 pub refused-stands : (c : Call) (a : Answer) → Later c → isDone a ≡ false → MayStand c a
 refused-stands (start m) a l e = absurd l
-refused-stands (key o) a l e = tt
-refused-stands (read o n x) a l e = tt
-refused-stands (write o n at new) a l e = tt
-refused-stands (rescind o n) a l e = tt
+refused-stands (on o c) a l e = tt
 refused-stands snapshot a l e = e
 refused-stands pageOut a l e = e
 refused-stands advance a l e = tt
 refused-stands forecast a l e = tt
 
 pub six-stand : (o n at : ℕ) (x new : List ℕ) (a : Answer)
-    → MayStand (key o) a × MayStand (read o n x) a × MayStand (write o n at new) a × MayStand (rescind o n) a × MayStand advance a × MayStand forecast a
+    → MayStand (on o key) a × MayStand (on o (read n x)) a × MayStand (on o (write n at new)) a × MayStand (on o (rescind n)) a × MayStand advance a × MayStand forecast a
 six-stand o n at x new a = (tt, tt, tt, tt, tt, tt)
 
 stands-later : (c : Call) (a : Answer) → MayStand c a → Later c
 stands-later (start m) a k = absurd k
-stands-later (key o) a k = tt
-stands-later (read o n x) a k = tt
-stands-later (write o n at new) a k = tt
-stands-later (rescind o n) a k = tt
+stands-later (on o c) a k = tt
 stands-later snapshot a k = tt
 stands-later pageOut a k = tt
 stands-later advance a k = tt
@@ -253,10 +238,7 @@ module _ (rs : List Range) (blocks area : ℕ) (full : blocks ≡ 1 + area + all
     where
       one : (c : Call) → MayStand c (plainDoes c t .answer) → a ≡ plainDoes c t .answer → Holds (plainDoes c t .next) (advances es more) z → Holds t (ofAdvance c a (advances es more)) z
       one (start m) k e h = absurd k
-      one (key o) k e h = holds-same t _ _ z (other-same t (key o) tt k) h
-      one (read o n x) k e h = holds-same t _ _ z (other-same t (read o n x) tt k) h
-      one (write o n at new) k e h = holds-same t _ _ z (other-same t (write o n at new) tt k) h
-      one (rescind o n) k e h = holds-same t _ _ z (other-same t (rescind o n) tt k) h
+      one (on o c) k e h = holds-same t _ _ z (other-same t (on o c) tt k) h
       one snapshot k e h = holds-same t _ _ z (other-same t snapshot tt k) h
       one pageOut k e h = holds-same t _ _ z (other-same t pageOut tt k) h
       one advance k e h = holds-advance t a _ z e h

@@ -29,8 +29,9 @@ use Rattle.card.specs.declared.range.Address.{Address}
 use Rattle.card.specs.declared.range.Lookup.the-variants.{Located}
 use Rattle.frames.specs.Promise.{numbered}
 use Rattle.pages.proofs.PotsLaws.{putPots-length, putPots-other, putPots-fresh}
+use Rattle.pages.specs.Call.{done}
 use Rattle.pages.specs.Page.{emptyPage, pageBytes, pageOf, putPots, formatCard}
-use Rattle.pages.specs.Promise.{done, answered, rangesIn, formatAsks, FormatKept}
+use Rattle.pages.specs.Promise.{answered, rangesIn, formatAsks, FormatKept}
 use Rattle.recovery.proofs.Follows.{Stored}
 use Rattle.recovery.proofs.FrameTheorem.{allNeeded, format-stored, stored-accepts, stored-start, reads-present}
 use Rattle.recovery.specs.Book.{FrameBook, bookStart}

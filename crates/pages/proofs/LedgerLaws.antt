@@ -6,25 +6,22 @@ use lib.Dec.{ltb, eqb}
 use lib.ListN.{length}
 use mathlib.Core.Bool.{Bool, true, false, cond, _||_}
 use mathlib.Core.List.{List, [], _∷_}
-use mathlib.Core.Logic.{_≢_}
 use mathlib.Core.Option.{some}
 use mathlib.Core.Path.{_≡_, refl, ap, sym, _∙_, subst}
 use native.Mathlib.Omega.{arith}
 use Rattle.card.specs.Question.{firstNo}
 use Rattle.card.specs.Range.{Range}
 use Rattle.card.specs.Ring.{ringAt}
-use Rattle.card.specs.declared.range.Address.{Address}
 use Rattle.pages.proofs.BlankLaws.{blankFrames, blank-waits, blank-room, blank-rises, blank-due, blank-passed, blank-sum, blank-advanceAsks}
-use Rattle.pages.specs.Page.{flagged, writeFrames, rescindFrames}
-use Rattle.pages.specs.Plain.{Row, Plain, blankGeneration, blank, touched, writeTouches, rescindTouches, isNone, phaseAfter, ledgerOf, plainAsks, plainOut, plainKind, plainPageOut}
-use Rattle.pages.specs.Promise.{pageOut}
+use Rattle.pages.specs.Call.{pageOut}
+use Rattle.pages.specs.Plain.{Plain, blankGeneration, blank, isNone, phaseAfter, ledgerOf, plainAsks, plainOut, plainKind, plainPageOut}
 use Rattle.recovery.proofs.Follows.{Follows, Facts, FactsOf, due-facts}
 use Rattle.recovery.proofs.FollowsStep.{some-waits}
 use Rattle.recovery.proofs.FrameTheorem.{pending-bytes, current-bytes, home-bytes, due-page}
 use Rattle.recovery.proofs.ForecastLaws.{forecast-sum}
 use Rattle.recovery.proofs.SumLaws.{Distinct, one-entry, one-rises, same-room, same-due, same-advance}
 use Rattle.recovery.specs.Book.{FrameBook, markedOr, bookWrote, Needs}
-use Rattle.recovery.specs.Contents.{Contents, FrameBytes}
+use Rattle.recovery.specs.Contents.{FrameBytes}
 use Rattle.recovery.specs.Directory.{Note}
 use Rattle.recovery.specs.Questions.{roomAsks, pageOutAsks, advanceAsks}
 use Rattle.recovery.specs.Sound.{Rises}
@@ -32,32 +29,6 @@ use Rattle.recovery.specs.State.{Generation, State, entryCount, directoryOf, em
 use Rattle.recovery.specs.Step.{pendingTo, currentTo, changeFrame, changeFrames, Kind, page, directory, trailer, migration, header, flush, outWrite, outOf, tailBytes, trailerBlockNo, nextMigration, kindWrite, afterFlush, afterKind, advanceDue, migrating, pageOutWrite, afterPageOut, passTo}
 use Rattle.recovery.specs.Sums as sums
 use Rattle.recovery.specs.Sums.{notedIn, remainingWrites, firstOf, roomSums, advanceSums, passedTo, commitSum}
-
--- ---- the frames that a call changes, by their numbers
-
--- a write's, none where it is of length 0
-pub write-touches : (v : Contents) (p : Address) (at : ℕ) (new : List ℕ) (nothing : Bool)
-    → blankFrames (cond nothing [] (writeFrames v p at new)) ≡ cond nothing [] (touched (p .page) ∷ cond (flagged v p) (touched (p .pot) ∷ []) [])
-unfolding writeFrames blankFrames
-write-touches v p at new nothing = go _ _ nothing (flagged v p)
-  where
-    go : (x y : FrameBytes) (e z : Bool) → blankFrames (cond e [] (x ∷ cond z (y ∷ []) [])) ≡ cond e [] (touched (x .frame) ∷ cond z (touched (y .frame) ∷ []) [])
-    go x y true z = refl
-    go x y false true = refl
-    go x y false false = refl
-
-pub rescind-touches : (v : Contents) (p : Address) → blankFrames (rescindFrames v p) ≡ rescindTouches p
-unfolding rescindFrames blankFrames
-rescind-touches v p = refl
-
-pub touches-apart : (r : Row) (new : List ℕ) (p : Address) → p .pot ≢ p .page → Distinct (writeTouches r new p)
-unfolding writeTouches
-touches-apart r new p d = go (eqb (length new) 0) (r .zero)
-  where
-    go : (e z : Bool) → Distinct (cond e [] (touched (p .page) ∷ cond z (touched (p .pot) ∷ []) []))
-    go true z = tt
-    go false true = ((d, tt), (tt, tt))
-    go false false = (tt, tt)
 
 -- ---- questions 16 and 17, as a state is asked them
 

@@ -3,6 +3,8 @@ pub mod AnswerLaws
 pub mod RowLaws
 pub mod NeededLaws
 pub mod HomeLaws
+pub mod EditLaws
+pub mod CanLaws
 pub mod Represents
 pub mod EmptyHome
 pub mod PotsLaws

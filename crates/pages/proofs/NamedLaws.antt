@@ -27,8 +27,9 @@ use Rattle.frames.proofs.LoadLaws.{newest-whole}
 use Rattle.frames.proofs.ReadyLaws.{Ready, ready, common-passed, common-refused}
 use Rattle.frames.specs.Parts.{framesWith, Changing}
 use Rattle.frames.specs.Promise.{Lent, meaningOf, commonAsks, common}
+use Rattle.pages.specs.Change.{atPlace}
 use Rattle.pages.specs.Page.{pageBytes}
-use Rattle.pages.specs.Promise.{addressOf, atPlace, presentFrames, presentCount, placed, NamedIs}
+use Rattle.pages.specs.Promise.{addressOf, presentFrames, placed, NamedIs}
 use Rattle.pages.specs.declared.named.Named.{Named}
 use Rattle.record.proofs.Held.{held, bounds}
 use Rattle.record.proofs.ListLaws.{elem-miss, elem-end, once-first, once-end, within-yes, within-end}
@@ -162,12 +163,12 @@ page-empty v p pot e h = rw (← e, h)
 -- ---- its questions
 
 -- 1 to 3, 9, and the rest of its place
-abbrev pub pageAsks : Lent → ℕ → (Address → List Question) → List Question
-pageAsks l oid rest = common l ++ placed (addressOf l oid) rest
+abbrev pub namedAsks : Lent → ℕ → (Address → List Question) → List Question
+namedAsks l oid rest = common l ++ placed (addressOf l oid) rest
 
 -- n is the number of the first "no"
 pub record Stops (l : Lent) (oid : ℕ) (rest : Address → List Question) (n : ℕ) : Type 0 where
-  pub number-is : firstNo (pageAsks l oid rest) ≡ n
+  pub number-is : firstNo (namedAsks l oid rest) ≡ n
   pub some : n ≢ 0
 
 placed-stop : (a : Lookup) (rest : Address → List Question) → firstNo (placed a (λ p. [])) ≢ 0 → firstNo (placed a rest) ≡ firstNo (placed a (λ p. []))
@@ -185,9 +186,13 @@ module _ (l : Lent) (oid : ℕ) (rest : Address → List Question) where
     some = z;
   }
 
-  pub rest-asked : (p : Address) → Found l oid p → firstNo (pageAsks l oid rest) ≡ firstNo (rest p)
+  pub rest-asked : (p : Address) → Found l oid p → firstNo (namedAsks l oid rest) ≡ firstNo (rest p)
   unfolding atPlace
   rest-asked p f = common-passed (l .store) (length (l .memory)) (length (l .card)) _ (f .passed) ∙ ap (λ (a : Lookup). firstNo (placed a rest)) (f .place-is)
+
+-- the present count of a page
+abbrev pub presentCount : Lent → Address → ℕ
+presentCount l p = countAt (presentFrames l (p .pot)) (p .entry)
 
 -- 10, and a question of the call's own
 abbrev pub keyAsks : (present count number : ℕ) (own : Bool) → List Question
@@ -214,7 +219,7 @@ module _ (l : Lent) (oid count : ℕ) (p : Address) (f : Found l oid p) (pot : L
 
 -- the rest counts
 pub keyed-asks : (l : Lent) (oid count : ℕ) (p : Address) (pot : List ℕ) (number : ℕ) (own : Bool) (rest : Address → List Question) → Keyed l oid count p pot own
-    → firstNo (pageAsks l oid (λ q. keyAsks (presentCount l q) count number own ++ rest q)) ≡ firstNo (rest p)
+    → firstNo (namedAsks l oid (λ q. keyAsks (presentCount l q) count number own ++ rest q)) ≡ firstNo (rest p)
 keyed-asks l oid count p pot number own rest k =
     let present : presentCount l p ≡ count = ap (λ (x : List ℕ). countAt x (p .entry)) (sym (k .pot-is)) ∙ k .count-is in
     rest-asked l oid _ p (k .found) ∙ asked-yes 10 _ _ (eq-eqb _ _ present) ∙ asked-yes number own _ (k .own-is)

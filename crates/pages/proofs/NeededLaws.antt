@@ -12,15 +12,15 @@ use mathlib.Core.Path.{_≡_, refl, ap, sym, _∙_}
 use native.Mathlib.Decide.{ℕ-discrete}
 use native.Mathlib.Omega.{arith}
 use Rattle.card.proofs.AddressLaws.{lies, PlacesApart, Found, here, later, found}
-use Rattle.card.specs.Pot.{countAt}
 use Rattle.card.specs.Range.{Range, rangeBlocks, addressIn, locate, allBlocks}
 use Rattle.card.specs.declared.range.Address.{Address}
 use Rattle.card.specs.declared.range.Lookup.{Lookup}
 use Rattle.card.specs.declared.range.Lookup.the-variants.{Located, Outside}
-use Rattle.pages.proofs.RowLaws.{rescind-row, rescind-other, write-other}
+use Rattle.pages.proofs.RowLaws.{flag-after, other-rows}
+use Rattle.pages.specs.Change.{Change, put, empty, writeFrames, changedFrames}
 use Rattle.pages.specs.Needed.{pageIn, pageAt, needed}
-use Rattle.pages.specs.Page.{flagged, writeFrames, rescindFrames}
-use Rattle.pages.specs.Plain.{Row, rowOf}
+use Rattle.pages.specs.Page.{flagged}
+use Rattle.pages.specs.Plain.{Row, rowOf, zeroAfter}
 use Rattle.recovery.specs.Book.{applyChanges, Brings}
 use Rattle.recovery.specs.Contents.{Contents}
 
@@ -192,17 +192,14 @@ module _ (rs : List Range) (area blocks : ℕ) (full : blocks ≡ 1 + area + all
             let away : PlacesApart p q = apart p q at-p at-q (λ k. d (sym (k ∙ page-is))) in
             page-needed v f q e ∙ ap not (sym (flag-of u q (same q away))) ∙ sym (page-needed u f q e) ∙ t
 
-    -- a write hands its page down
-    pub write-brings : (at : ℕ) (new : List ℕ) → Brings (needed rs area) area blocks (writeFrames v p at new) v
-    write-brings at new f l h without t = others _ (write-other v p two long high at new) f (unfold writeFrames in (without .0)) t
-
-    -- a rescind makes its page empty
-    pub rescind-brings : countAt (v (p .pot)) (p .entry) < 4294967295 → Brings (needed rs area) area blocks (rescindFrames v p) v
-    rescind-brings few f l h without t = go (ℕ-discrete f (p .page))
+    -- a write hands its page down; a rescind makes its page empty
+    pub change-brings : (c : Change) → Brings (needed rs area) area blocks (changedFrames c v p) v
+    change-brings (put at new) f l h without t = others _ (other-rows v p two long high (put at new)) f (unfold changedFrames writeFrames in (without .0)) t
+    change-brings empty f l h without t = go (ℕ-discrete f (p .page))
       where
-        empty : flagged (applyChanges (rescindFrames v p) v) p ≡ true
-        empty = unfold rowOf in (ap (λ (r : Row). r .zero) (rescind-row v p two long high few))
+        flag-set : flagged (applyChanges (changedFrames empty v p) v) p ≡ true
+        flag-set = unfold zeroAfter in (flag-after v p two long high empty)
 
         go : Dec (f ≡ p .page) → needed rs area v f ≡ true
-        go (yes e) = absurd (false≢true (ap not (sym empty) ∙ sym (page-needed (applyChanges (rescindFrames v p) v) f p (ap (pageAt rs (1 + area)) e ∙ at-p)) ∙ t))
-        go (no d) = others _ (rescind-other v p two long high) f d t
+        go (yes e) = absurd (false≢true (ap not (sym flag-set) ∙ sym (page-needed (applyChanges (changedFrames empty v p) v) f p (ap (pageAt rs (1 + area)) e ∙ at-p)) ∙ t))
+        go (no d) = others _ (other-rows v p two long high empty) f d t

@@ -1,57 +1,85 @@
 -- The plain machine beside what is lent to a call: it is asked the same, and of a call that is done it has the answer, the block and the tables.
 -- Assumes nothing.
-use Prim.Native.Nat.{ℕ, _+_, _≤_, _<_}
+use Prim.Native.Nat.{ℕ, _+_, _<_}
 use borrow.Author.Tests.{ltb-true, lt-ltb, ne-eqb}
-use lib.Dec.{eqb}
 use lib.ListN.{length}
 use mathlib.Core.Bool.{Bool, true, false, cond, not, false≢true}
-use mathlib.Core.List.{List, [], _∷_}
-use mathlib.Core.Logic.{_≢_}
+use mathlib.Core.List.{List, [], _∷_, _++_}
 use mathlib.Core.Option.{Option, none, some}
 use mathlib.Core.Path.{_≡_, refl, ap, sym, _∙_}
 use native.Mathlib.Omega.{arith}
-use Rattle.card.proofs.AddressLaws.{Within, PlacesApart}
 use Rattle.card.proofs.QuestionLaws.{passed-both}
-use Rattle.card.specs.Bytes.{All}
-use Rattle.card.specs.Pot.{countAt}
 use Rattle.card.specs.Question.{Question, firstNo}
-use Rattle.card.specs.Range.{Range, locate, allBlocks}
+use Rattle.card.specs.Range.{Range, allBlocks}
 use Rattle.card.specs.declared.range.Address.{Address}
 use Rattle.card.specs.declared.range.Lookup.{Lookup}
 use Rattle.card.specs.declared.range.Lookup.the-variants.{Located, Outside}
 use Rattle.frames.proofs.Run.{told, Asked}
 use Rattle.frames.specs.Promise.{Lent, meaningOf, common, FrameCall, past}
-use Rattle.pages.proofs.AnswerLaws.{Later, ownAsks, found-place, write-passed, rescind-passed}
-use Rattle.pages.proofs.BlankLaws.{blankFrames, blank-change, blank-snapshot, blank-pageOut, blank-kind}
-use Rattle.pages.proofs.LedgerLaws.{write-touches, rescind-touches, touches-apart, nonePending, someChange, change-notes, out-keeps, kind-current, kind-marked, kind-phase, out-phase, room-is, due-is, advance-is, forecast-is, waiting-is, out-is, kind-is, passed-is, past-is}
-use Rattle.pages.proofs.NeededLaws.{page-at, at-tells, pot-needed, page-needed, needed-same, write-brings, rescind-brings, not-true, not-false}
-use Rattle.pages.proofs.Represents.{write-whole, rescind-whole, write-same, rescind-same, AsTable, Long, changes-long, in-p, updated}
-use Rattle.pages.proofs.Represents as represents
-use Rattle.pages.proofs.RowLaws.{rescind-row, rescind-other, write-row, write-other}
-use Rattle.pages.specs.Book.{update, written, rescinded}
-use Rattle.pages.specs.Needed.{pageAt, needed}
-use Rattle.pages.specs.Page.{Page, flagged, pageBytes, pageOf, writeFrames, rescindFrames}
-use Rattle.pages.specs.Plain.{Row, rowOf, Plain, blank, plainAddress, touched, writeTouches, rescindTouches, isNone, plainAsks, plainKind, PlainOutcome, answers, plainWrite, plainRescind, plainAdvance, plainDone, plainOver, plainPast, ledgerOf}
-use Rattle.pages.specs.Promise.{Call, start, key, read, write, rescind, snapshot, pageOut, advance, forecast, Answer, done, counted, filled, wrote, foretold, answered, addressOf, atPlace, presentFrames, presentCount, writeChanges, rescindChanges, placed, asks, frameCall, doneAnswer, committedFrames, over, passedOf}
+use Rattle.pages.proofs.AnswerLaws.{Later, ownAsks, on-passed}
+use Rattle.pages.proofs.BlankLaws.{blank-change, blank-snapshot, blank-pageOut, blank-kind}
+use Rattle.pages.proofs.CanLaws.{passed-can, edits-apart}
+use Rattle.pages.proofs.EditLaws.{placeOn, SameRows, Long, changes-long, Alike, page-alike, CanAll, Made, frames-more, edits-made}
+use Rattle.pages.proofs.LedgerLaws.{nonePending, someChange, change-notes, out-keeps, kind-current, kind-marked, kind-phase, out-phase, room-is, due-is, advance-is, forecast-is, waiting-is, out-is, kind-is, passed-is, past-is}
+use Rattle.pages.proofs.NeededLaws.{needed-same, not-true, not-false}
+use Rattle.pages.specs.Call.{PageCall, key, read, write, rescind, Call, start, on, snapshot, pageOut, advance, forecast, Answer, wrote, foretold, pageAsks, edits, pageAnswer}
+use Rattle.pages.specs.Change.{Change, put, empty, Edit, writeFrames, changedFrames, atPlace, editFrames}
+use Rattle.pages.specs.Needed.{needed}
+use Rattle.pages.specs.Page.{Page}
+use Rattle.pages.specs.Plain.{Row, rowOf, Plain, blank, plainAddress, editTouches, isNone, rowAsks, plainAsks, plainKind, PlainOutcome, answers, rowAnswer, plainEdits, plainAdvance, plainDone, plainOver, plainPast, ledgerOf}
+use Rattle.pages.specs.Promise.{answered, addressOf, presentFrames, presentPage, callFrames, placed, asks, frameCall, doneAnswer, committedFrames, over, passedOf}
 use Rattle.recovery.proofs.Follows.{Follows}
 use Rattle.recovery.proofs.FollowsStep.{follows-pass}
 use Rattle.recovery.proofs.FrameTheorem.{reads-present, reads-committed}
 use Rattle.recovery.proofs.SumLaws.{passed-over, passed-within, passed-next, passed-more, passed-owed}
-use Rattle.recovery.specs.Book.{FrameBook, applyChanges, bookChange, bookWrote, WholeFrame, Brings}
+use Rattle.recovery.specs.Book.{FrameBook, applyChanges, bookWrote}
 use Rattle.recovery.specs.Contents.{Contents, FrameBytes}
 use Rattle.recovery.specs.Questions.{heldAsks, roomAsks, snapshotAsks, given, advanceAsks}
 use Rattle.recovery.specs.Sound.{Rises}
-use Rattle.recovery.specs.State.{entryCount, empty, State}
+use Rattle.recovery.specs.State.{Generation, entryCount, State}
+use Rattle.recovery.specs.State as state
 use Rattle.recovery.specs.Step.{changeFrames, afterChange, afterSnapshot, Kind, page, directory, trailer, migration, header, flush, kindWrite, kindPut, advanceDue, migrating, nextMigration, passTo}
 use Rattle.recovery.specs.Sums as sums
 use Rattle.recovery.specs.Sums.{roomSums, passedTo, remainingWrites, firstOf, advanceSums}
 use Rattle.recovery.specs.Write.{BlockWrite}
 use Rattle.frames.specs.Promise as frames
 
-placed-same : (a : Lookup) (f h : Address → List Question) → ((p : Address) → a ≡ Located p → f p ≡ h p) → placed a f ≡ placed a h
+-- two lists of questions that begin alike, or of a place alike, have the same first "no"
+begun-same : (ps qs rs : List Question) → (firstNo ps ≡ 0 → firstNo qs ≡ firstNo rs) → firstNo (ps ++ qs) ≡ firstNo (ps ++ rs)
+unfolding firstNo
+begun-same [] qs rs h = h refl
+begun-same (p ∷ ps) qs rs h = go (p .yes) (begun-same ps qs rs) h
+  where
+    go : (b : Bool) → ((firstNo ps ≡ 0 → firstNo qs ≡ firstNo rs) → firstNo (ps ++ qs) ≡ firstNo (ps ++ rs)) → (cond b (firstNo ps) (p .number) ≡ 0 → firstNo qs ≡ firstNo rs)
+        → cond b (firstNo (ps ++ qs)) (p .number) ≡ cond b (firstNo (ps ++ rs)) (p .number)
+    go true rest e = rest e
+    go false rest e = refl
+
+placed-same : (a : Lookup) (f h : Address → List Question) → ((p : Address) → a ≡ Located p → firstNo (f p) ≡ firstNo (h p)) → firstNo (placed a f) ≡ firstNo (placed a h)
 unfolding atPlace
 placed-same Outside f h e = refl
 placed-same (Located p) f h e = e p refl
+
+-- of a row, the machine asks and answers as the promise does of its page
+asks-same : (c : PageCall) (r : Row) → pageAsks c (r .page) ≡ rowAsks c r
+unfolding pageAsks rowAsks
+asks-same key r = refl
+asks-same (read n b) r = refl
+asks-same (write n at new) r = refl
+asks-same (rescind n) r = refl
+
+answer-same : (c : PageCall) (r : Row) → pageAnswer c (r .page) ≡ rowAnswer c r
+unfolding pageAnswer rowAnswer
+answer-same key r = refl
+answer-same (read n b) r = refl
+answer-same (write n at new) r = refl
+answer-same (rescind n) r = refl
+
+-- a change leaves an entry
+change-some : (c : Change) (v : Contents) (p : Address) (us : List FrameBytes) (g : Generation) → Rises (g .entries) → 0 < entryCount (changeFrames (changedFrames c v p ++ us) g)
+unfolding changedFrames writeFrames
+change-some (put at new) v p us g up = change-notes _ _ g up
+change-some empty v p us g up = change-notes _ _ g up
 
 -- advance changes nothing that is present
 wrote-present : (k : Kind) (b : FrameBook) → bookWrote k b .present ≡ b .present
@@ -63,10 +91,6 @@ wrote-present header b = refl
 wrote-present flush b = refl
 
 module _ (rs : List Range) (blocks area : ℕ) (full : blocks ≡ 1 + area + allBlocks rs) where
-  -- the frames show each OID's page, with its flag, as the rows have it
-  abbrev SameRows : Contents → (ℕ → Row) → Type 0
-  SameRows v rows = AsTable rs blocks area full rowOf v rows
-
   -- the machine's tables and tests are those of what is lent, which passes questions 1 to 3
   pub record InStep (l : Lent) (t : Plain) : Type 0 where
     pub passes : firstNo (common l) ≡ 0
@@ -75,7 +99,7 @@ module _ (rs : List Range) (blocks area : ℕ) (full : blocks ≡ 1 + area + all
     pub phase-is : t .phase ≡ meaningOf l .phase
     pub changed-is : t .changed ≡ someChange (meaningOf l)
     pub marked-is : isNone (t .frames .marked) ≡ nonePending (meaningOf l)
-    pub rows-are : SameRows (t .frames .present) (t .rows)
+    pub rows-are : SameRows rs blocks area full (t .frames .present) (t .rows)
     pub long : Long rs blocks area full (t .frames .present)
 
   module _ (l : Lent) (t : Plain) (b : InStep l t) where
@@ -89,7 +113,7 @@ module _ (rs : List Range) (blocks area : ℕ) (full : blocks ≡ 1 + area + all
       pub phase-is : d .next .phase ≡ frames.after c l .phase
       pub changed-is : d .next .changed ≡ someChange (frames.after c l)
       pub marked-is : isNone (d .next .frames .marked) ≡ nonePending (frames.after c l)
-      pub rows-are : SameRows (d .next .frames .present) (d .next .rows)
+      pub rows-are : SameRows rs blocks area full (d .next .frames .present) (d .next .rows)
       pub long : Long rs blocks area full (d .next .frames .present)
 
     unchanged : (a a′ : Answer) → a ≡ a′ → Agrees (frames.change []) a (answers a′ t)
@@ -107,141 +131,96 @@ module _ (rs : List Range) (blocks area : ℕ) (full : blocks ≡ 1 + area + all
       long = b .long;
     }
 
-    -- frames of one page change, and its row
-    changed : (ws touches : List FrameBytes) (o : ℕ) (x : Row) → blankFrames ws ≡ touches → All (WholeFrame area blocks) ws → Brings (needed rs area) area blocks ws (t .frames .present) → 0 < entryCount (changeFrames ws (meaningOf l .current))
-        → SameRows (applyChanges ws (t .frames .present)) (update o x (t .rows))
-        → Agrees (frames.change ws) done (answers done (record { rows = update o x (t .rows); changed = true; phase = t .phase; ledger = afterChange touches (t .ledger); frames = bookChange ws (t .frames) }))
-    unfolding frames.doneWrite frames.doneAnswer frames.after told
-    changed ws touches o x e whole brings noted rows = record {
-      asked = rw (b .follows .area-is, b .follows .blocks-is) (whole, brings);
-      answer-is = refl;
-      write-is = refl;
-      frames-are = refl;
-      ledger-is = rw (b .ledger-is, ← e) (blank-change (meaningOf l) ws);
-      phase-is = unfold afterChange in (b .phase-is);
-      changed-is = unfold afterChange in (sym (lt-ltb 0 _ noted));
-      marked-is = unfold afterChange in (b .marked-is);
-      rows-are = rows;
-      long = changes-long rs blocks area full ws (t .frames .present) whole (b .long);
-    }
+    -- ---- places
 
-    -- ---- a page that a call names
+    address-is : (o : ℕ) → addressOf l o ≡ placeOn rs area o
+    address-is o = rw (b .follows .ranges-is, b .follows .area-is)
+
+    plain-address : (o : ℕ) → plainAddress t o ≡ placeOn rs area o
+    unfolding blank
+    plain-address o = rw (b .ledger-is, b .follows .ranges-is, b .follows .area-is)
+
+    address-places : addressOf l ≡ placeOn rs area
+    address-places = λ i o. address-is o i
+
+    plain-places : plainAddress t ≡ placeOn rs area
+    plain-places = λ i o. plain-address o i
+
+    -- ---- a list of changes
 
     rises : Rises (meaningOf l .current .entries)
     rises = b .follows .current-ordered .rises
 
-    address-is : (o : ℕ) → addressOf l o ≡ locate rs (1 + area) o
-    address-is o = rw (b .follows .ranges-is, b .follows .area-is)
+    abbrev present : Contents
+    present = t .frames .present
 
-    plain-address : (o : ℕ) → plainAddress t o ≡ locate rs (1 + area) o
-    unfolding blank
-    plain-address o = rw (b .ledger-is, b .follows .ranges-is, b .follows .area-is)
+    shown : Alike rs blocks area full (presentFrames l) present
+    shown f low high x = reads-present blocks area rs (meaningOf l) (l .card) (t .frames) (b .follows) f low high x
 
-    module _ (o : ℕ) (p : Address) (e : locate rs (1 + area) o ≡ Located p) where
-      abbrev present : Contents
-      present = t .frames .present
+    -- the frames behind it
+    abbrev framesOf : List Edit → List FrameBytes
+    framesOf es = editFrames (placeOn rs area) es present
 
-      inside : Within (1 + area) blocks p
-      inside = in-p rs blocks area full o p e
+    made : (es : List Edit) → CanAll rs blocks area full es (t .rows) → Made rs blocks area full es present (t .rows)
+    made es can = edits-made rs blocks area full es present (t .rows) (b .rows-are) (b .long) can
 
-      at-page : pageAt rs (1 + area) (p .page) ≡ Located p
-      at-page = page-at rs (1 + area) o p e
+    edits-agree : (es : List Edit) → CanAll rs blocks area full es (t .rows) → (a a′ : Answer) → a ≡ a′ → Agrees (frames.change (framesOf es)) a (answers a′ (plainEdits es t))
+    unfolding plainEdits
+    edits-agree [] can a a′ e = unfold editFrames in (unchanged a a′ e)
+    edits-agree (x ∷ es) can a a′ e = rw plain-places (record {
+      asked = rw (b .follows .area-is, b .follows .blocks-is) (m .whole, m .brings);
+      answer-is = e;
+      write-is = unfold frames.doneWrite in refl;
+      frames-are = unfold frames.doneAnswer told in refl;
+      ledger-is = unfold frames.after in (rw (b .ledger-is, ← m .touches-are) (blank-change (meaningOf l) (framesOf (x ∷ es))));
+      phase-is = unfold frames.after afterChange in (b .phase-is);
+      changed-is = unfold frames.after afterChange in (sym (lt-ltb 0 _ noted));
+      marked-is = unfold frames.after afterChange in (b .marked-is);
+      rows-are = m .rows-are;
+      long = changes-long rs blocks area full (framesOf (x ∷ es)) present (m .whole) (b .long);
+    })
+      where
+        m : Made rs blocks area full (x ∷ es) present (t .rows)
+        m = made (x ∷ es) can
 
-      pot-is : presentFrames l (p .pot) ≡ present (p .pot)
-      pot-is = reads-present blocks area rs (meaningOf l) (l .card) (t .frames) (b .follows) (p .pot) (omega (arith, inside)) (omega (arith, inside))
-          (pot-needed rs area blocks full present (p .pot) (at-tells rs (1 + area) (p .page) p at-page .pot-is))
+        noted : 0 < entryCount (changeFrames (framesOf (x ∷ es)) (meaningOf l .current))
+        noted = rw (frames-more rs blocks area full x es present (t .rows) (can .0 .0) (can .0 .1) present) (change-some (x .change) present (can .0 .0) _ (meaningOf l .current) rises)
 
-      page-is : flagged present p ≡ false → presentFrames l (p .page) ≡ present (p .page)
-      page-is h = reads-present blocks area rs (meaningOf l) (l .card) (t .frames) (b .follows) (p .page) (omega (arith, inside)) (omega (arith, inside))
-          (page-needed rs area blocks full present (p .page) p at-page ∙ ap not h)
+    -- ---- a call on a page
 
-      row-page : pageOf present p ≡ t .rows o .page
-      unfolding rowOf
-      row-page = ap (λ (x : Row). x .page) (b .rows-are o p e)
+    module _ (o : ℕ) (c : PageCall) where
+      frames-are : CanAll rs blocks area full (edits o c) (t .rows) → callFrames o c l ≡ framesOf (edits o c)
+      unfolding callFrames
+      frames-are can = rw address-places (made (edits o c) can .alike (presentFrames l) shown)
 
-      row-zero : flagged present p ≡ t .rows o .zero
-      unfolding rowOf
-      row-zero = ap (λ (x : Row). x .zero) (b .rows-are o p e)
+      module _ (p : Address) (e : placeOn rs area o ≡ Located p) where
+        page-is : presentPage l p ≡ t .rows o .page
+        unfolding rowOf
+        page-is = page-alike rs blocks area full (presentFrames l) present shown o p e ∙ ap (λ (x : Row). x .page) (b .rows-are o p e)
 
-      bytes-same : pageBytes (presentFrames l) p ≡ t .rows o .page .bytes
-      unfolding pageOf
-      bytes-same = represents.bytes-same (presentFrames l) present p pot-is page-is ∙ ap (λ (x : Page). x .bytes) row-page
+        can : firstNo (pageAsks c (t .rows o .page)) ≡ 0 → CanAll rs blocks area full (edits o c) (t .rows)
+        can ok = passed-can rs blocks area full o p e (t .rows) c ok
 
-      count-same : presentCount l p ≡ t .rows o .page .count
-      unfolding pageOf
-      count-same = rw pot-is (ap (λ (x : Page). x .count) row-page)
+        room : firstNo (pageAsks c (t .rows o .page)) ≡ 0 → roomAsks (callFrames o c l) (meaningOf l) ≡ roomSums (editTouches (placeOn rs area) (edits o c) (t .rows)) (t .ledger)
+        room ok = rw (frames-are (can ok))
+            (room-is (meaningOf l) t (b .ledger-is) (b .phase-is) (framesOf (edits o c)) _ (made (edits o c) (can ok) .touches-are) (edits-apart rs blocks area full o p e (t .rows) c) rises)
 
-      -- ---- the frames that it changes, and the room for them
+        page-asks : firstNo (pageAsks c (presentPage l p) ++ roomAsks (callFrames o c l) (meaningOf l))
+            ≡ firstNo (rowAsks c (t .rows o) ++ roomSums (editTouches (placeOn rs area) (edits o c) (t .rows)) (t .ledger))
+        page-asks = rw (page-is, ← asks-same c (t .rows o)) (begun-same (pageAsks c (t .rows o .page)) _ _ (λ ok. ap firstNo (room ok)))
 
-      write-frames : (at : ℕ) (new : List ℕ) → writeFrames (presentFrames l) p at new ≡ writeFrames present p at new
-      write-frames at new = write-same (presentFrames l) present p at new pot-is page-is
+      on-asks : firstNo (ownAsks (on o c) l) ≡ firstNo (plainAsks (on o c) t)
+      unfolding ownAsks asks heldAsks plainAsks
+      on-asks = rw (address-is o, plain-places) (placed-same (placeOn rs area o) _ _ page-asks)
 
-      rescind-frames : rescindChanges l p ≡ rescindFrames present p
-      unfolding rescindChanges
-      rescind-frames = rescind-same (presentFrames l) present p pot-is
-
-      row-touches : (at : ℕ) (new : List ℕ) (nothing : Bool)
-          → blankFrames (cond nothing [] (writeFrames present p at new)) ≡ cond nothing [] (touched (p .page) ∷ cond (t .rows o .zero) (touched (p .pot) ∷ []) [])
-      row-touches at new nothing = rw (← row-zero) (write-touches present p at new nothing)
-
-      write-room : (at : ℕ) (new : List ℕ) → roomAsks (writeChanges l at new p) (meaningOf l) ≡ roomSums (writeTouches (t .rows o) new p) (t .ledger)
-      unfolding writeChanges writeTouches
-      write-room at new = rw (write-frames at new) (room-is (meaningOf l) t (b .ledger-is) (b .phase-is) _ _ (row-touches at new (eqb (length new) 0)) (touches-apart (t .rows o) new p (omega (arith, inside))) rises)
-
-      rescind-room : roomAsks (rescindChanges l p) (meaningOf l) ≡ roomSums (rescindTouches p) (t .ledger)
-      rescind-room = rw rescind-frames (room-is (meaningOf l) t (b .ledger-is) (b .phase-is) _ _ (rescind-touches present p) (tt, tt) rises)
-
-      -- ---- a write and a rescind of it
-
-      rows-changed : (v : Contents) (x : Row) → rowOf v p ≡ x → ((q : Address) → PlacesApart p q → rowOf v q ≡ rowOf present q) → SameRows v (update o x (t .rows))
-      rows-changed v x own others = updated rs blocks area full o p e rowOf present v (t .rows) x (b .rows-are) own others
-
-      two : p .page ≢ p .pot
-      two = omega (arith, inside)
-
-      pot-long : length (present (p .pot)) ≡ 512
-      pot-long = b .long (p .pot) (omega (arith, inside)) (omega (arith, inside))
-
-      page-long : length (present (p .page)) ≡ 512
-      page-long = b .long (p .page) (omega (arith, inside)) (omega (arith, inside))
-
-      write-agrees : (at : ℕ) (new : List ℕ) → at + length new ≤ 512 → Agrees (frames.change (writeChanges l at new p)) done (answers done (plainWrite o at new t p))
-      unfolding writeChanges plainWrite writeTouches
-      write-agrees at new short = rw (write-frames at new) (go (eqb (length new) 0))
-        where
-          noted : 0 < entryCount (changeFrames (writeFrames present p at new) (meaningOf l .current))
-          noted = unfold writeFrames in (change-notes _ _ _ rises)
-
-          own : rowOf (applyChanges (writeFrames present p at new) present) p ≡ record { page = written at new (t .rows o .page); zero = false }
-          own = write-row present p two pot-long (inside .entry-high) at new ∙ ap (λ (x : Page). record { page = written at new x; zero = false }) row-page
-
-          go : (nothing : Bool) → Agrees (frames.change (cond nothing [] (writeFrames present p at new))) done (answers done (cond nothing t (record {
-            rows = update o (record { page = written at new (t .rows o .page); zero = false }) (t .rows);
-            changed = true;
-            phase = t .phase;
-            ledger = afterChange (cond nothing [] (touched (p .page) ∷ cond (t .rows o .zero) (touched (p .pot) ∷ []) [])) (t .ledger);
-            frames = bookChange (writeFrames present p at new) (t .frames);
-          })))
-          go true = unchanged done done refl
-          go false = changed (writeFrames present p at new) _ o _ (row-touches at new false) (write-whole area blocks present p inside pot-long page-long at new short)
-              (write-brings rs area blocks full present p at-page two pot-long (inside .entry-high) at new) noted
-              (rows-changed _ _ own (write-other present p two pot-long (inside .entry-high) at new))
-
-      rescind-agrees : t .rows o .page .count < 4294967295 → Agrees (frames.change (rescindChanges l p)) done (answers done (plainRescind o t p))
-      unfolding plainRescind
-      rescind-agrees limit = rw rescind-frames
-          (changed (rescindFrames present p) (rescindTouches p) o _ (rescind-touches present p) (rescind-whole area blocks present p inside pot-long)
-          (rescind-brings rs area blocks full present p at-page two pot-long (inside .entry-high) few) noted
-          (rows-changed _ _ own (rescind-other present p two pot-long (inside .entry-high))))
-        where
-          noted : 0 < entryCount (changeFrames (rescindFrames present p) (meaningOf l .current))
-          noted = unfold rescindFrames in (change-notes _ _ _ rises)
-
-          few : countAt (present (p .pot)) (p .entry) < 4294967295
-          few = unfold pageOf in (omega (arith, ap (λ (x : Page). x .count) row-page))
-
-          own : rowOf (applyChanges (rescindFrames present p) present) p ≡ record { page = rescinded (t .rows o .page); zero = true }
-          own = rescind-row present p two pot-long (inside .entry-high) few ∙ ap (λ (x : Page). record { page = rescinded x; zero = true }) row-page
+      on-agrees : firstNo (ownAsks (on o c) l) ≡ 0 → Agrees (frameCall (on o c) l) (doneAnswer (on o c) l) (plainDone (on o c) t)
+      unfolding frameCall doneAnswer plainDone atPlace
+      on-agrees own =
+          let q = on-passed o c l own in
+          let e : placeOn rs area o ≡ Located (q .place) = sym (address-is o) ∙ q .place-is in
+          let same = page-is (q .place) e in
+          let able = can (q .place) e (sym (ap (λ (x : Page). firstNo (pageAsks c x)) same) ∙ q .page) in
+          rw (q .place-is, frames-are able) (edits-agree (edits o c) able _ _ (ap (pageAnswer c) same ∙ answer-same c (t .rows o)))
 
     -- ---- advance: what is passed over is the same
 
@@ -318,39 +297,23 @@ module _ (rs : List Range) (blocks area : ℕ) (full : blocks ≡ 1 + area + all
 
     -- ---- any call but start
 
-    pub same-asks : (c : Call) → Later c → ownAsks c l ≡ plainAsks c t
+    pub same-number : (c : Call) → Later c → firstNo (ownAsks c l) ≡ firstNo (plainAsks c t)
     unfolding ownAsks asks heldAsks plainAsks
-    same-asks (start m) k = absurd k
-    same-asks (key o) k = rw (address-is o, plain-address o)
-    same-asks (read o n x) k = rw (address-is o, plain-address o) (placed-same (locate rs (1 + area) o) _ _ (λ p e. rw (count-same o p e)))
-    same-asks (write o n at new) k = rw (address-is o, plain-address o) (placed-same (locate rs (1 + area) o) _ _ (λ p e. rw (count-same o p e, write-room o p e at new)))
-    same-asks (rescind o n) k = rw (address-is o, plain-address o) (placed-same (locate rs (1 + area) o) _ _ (λ p e. rw (count-same o p e, rescind-room o p e)))
-    same-asks snapshot k = snapshot-asks
-    same-asks pageOut k = waiting-is (meaningOf l) t (b .ledger-is) (b .phase-is)
-    same-asks advance k = advance-asks
-    same-asks forecast k = refl
+    same-number (start m) k = absurd k
+    same-number (on o c) k = on-asks o c
+    same-number snapshot k = ap firstNo snapshot-asks
+    same-number pageOut k = ap firstNo (waiting-is (meaningOf l) t (b .ledger-is) (b .phase-is))
+    same-number advance k = ap firstNo advance-asks
+    same-number forecast k = refl
 
     due-same : firstOf (remainingWrites (plainOver t) (ledgerOf t)) ≡ advanceDue (meaningOf (past (passedOf l) l))
     unfolding passedOf
     due-same = due-is (meaningOf l) t (b .ledger-is) (b .phase-is) (plainOver t) ∙ sym (ap (λ (o : ℕ → Bool). advanceDue (passTo (passedTo o (meaningOf l)) (meaningOf l))) over-is)
 
     pub agrees : (c : Call) → Later c → firstNo (ownAsks c l) ≡ 0 → Agrees (frameCall c l) (doneAnswer c l) (plainDone c t)
-    unfolding ownAsks asks heldAsks frameCall doneAnswer plainDone atPlace
+    unfolding ownAsks asks heldAsks frameCall doneAnswer plainDone
     agrees (start m) k own = absurd k
-    agrees (key o) k own =
-        let q = found-place (addressOf l o) _ own in
-        unchanged _ _ (rw (q .1) (ap counted (count-same o (q .0) (sym (address-is o) ∙ q .1))))
-    agrees (read o n x) k own =
-        let q = found-place (addressOf l o) _ own in
-        unchanged _ _ (rw (q .1) (ap (filled 0) (bytes-same o (q .0) (sym (address-is o) ∙ q .1))))
-    agrees (write o n at new) k own =
-        let q = write-passed l o n at new own in
-        let e : locate rs (1 + area) o ≡ Located (q .place) = sym (address-is o) ∙ q .place-is in
-        rw (address-is o, plain-address o, e) (write-agrees o (q .place) e at new (q .short))
-    agrees (rescind o n) k own =
-        let q = rescind-passed l o n own in
-        let e : locate rs (1 + area) o ≡ Located (q .place) = sym (address-is o) ∙ q .place-is in
-        rw (address-is o, plain-address o, e) (rescind-agrees o (q .place) e (omega (arith, count-same o (q .place) e, q .count-is, q .few)))
+    agrees (on o c) k own = on-agrees o c own
     agrees snapshot k own = record {
       asked = tt;
       answer-is = refl;
@@ -358,7 +321,7 @@ module _ (rs : List Range) (blocks area : ℕ) (full : blocks ≡ 1 + area + all
       frames-are = unfold frames.doneAnswer told in refl;
       ledger-is = unfold frames.after in (rw (b .ledger-is) (blank-snapshot (meaningOf l)));
       phase-is = unfold frames.after afterSnapshot in (b .phase-is);
-      changed-is = unfold frames.after afterSnapshot empty in refl;
+      changed-is = unfold frames.after afterSnapshot state.empty in refl;
       marked-is = unfold frames.after in (sym (snapshot-pending own));
       rows-are = b .rows-are;
       long = b .long;

@@ -1,4 +1,4 @@
--- A write and a rescind change one page, and leave the others; of a pot they leave the seven other flag bits and every byte outside the page's entry.
+-- A change makes of its own page's row what the machine says, and leaves the others; of a pot it leaves the seven other flag bits and every byte outside the page's entry.
 -- Assumes nothing.
 use Prim.Native.Nat.{ℕ, suc, _+_, _*_, _/_, _≤_, _<_}
 use lib.ListN.{length, getD}
@@ -11,12 +11,12 @@ use native.Mathlib.Omega.{arith}
 use Rattle.card.proofs.AddressLaws.{PlacesApart}
 use Rattle.card.proofs.PotLaws.{set-is, clear-is, set-keeps, clear-keeps, flags-same, flags-other, flags-count, putCount-length, count-same, count-other, count-flags, flags-outside, count-outside}
 use Rattle.card.proofs.Test.{byTest}
-use Rattle.card.specs.Bytes.{patch, All}
+use Rattle.card.specs.Bytes.{patch, zeros, All}
 use Rattle.card.specs.Pot.{countAt, flagsAt, putCount, putFlags, isZero, setZero, clearZero}
 use Rattle.card.specs.declared.range.Address.{Address}
-use Rattle.pages.specs.Book.{written, rescinded}
-use Rattle.pages.specs.Page.{flagged, pageBytes, pageOf, writeFrames, rescindPot, rescindFrames}
-use Rattle.pages.specs.Plain.{Row, rowOf}
+use Rattle.pages.specs.Change.{Change, put, empty, changed, writeFrames, rescindPot, changedFrames}
+use Rattle.pages.specs.Page.{flagged, pageBytes, pageOf}
+use Rattle.pages.specs.Plain.{Row, rowOf, zeroAfter, rowAfter}
 use Rattle.recovery.proofs.ContentsLaws.{overlay-without, overlay-first}
 use Rattle.recovery.proofs.Sorted.{oldest}
 use Rattle.recovery.specs.Book.{applyChanges}
@@ -70,41 +70,93 @@ module _ (v : Contents) (p : Address) (two : p .page ≢ p .pot) (long : length 
   abbrev flags : ℕ
   flags = flagsAt pot (p .entry)
 
-  -- ---- rescind
+  abbrev count : ℕ
+  count = countAt pot (p .entry)
+
+  -- a change can be made
+  abbrev pub CanMake : Change → Type 0
+  CanMake (put at new) = Unit {0}
+  CanMake empty = suc count < 4294967296
+
+  -- ---- page and pot after a change
+
+  abbrev cleared : List ℕ
+  cleared = putFlags pot (p .entry) (clearZero flags)
+
+  abbrev potAfter : Change → List ℕ
+  potAfter (put at new) = cond (flagged v p) cleared pot
+  potAfter empty = rescindPot pot (p .entry)
+
+  abbrev pageAfter : Change → List ℕ
+  pageAfter (put at new) = patch (pageBytes v p) at new
+  pageAfter empty = v (p .page)
+
+  abbrev pub after : Change → Contents
+  after c = applyChanges (changedFrames c v p) v
+
+  abbrev first : ℕ → List ℕ → FrameBytes
+  first at new = record { frame = p .page; bytes = patch (pageBytes v p) at new }
+
+  abbrev second : FrameBytes
+  second = record { frame = p .pot; bytes = cleared }
+
+  after-page : (c : Change) → after c (p .page) ≡ pageAfter c
+  unfolding changedFrames writeFrames applyChanges
+  after-page (put at new) = byTest (λ (ws : List FrameBytes). applyChanges (first at new ∷ ws) v (p .page) ≡ patch (pageBytes v p) at new) (flagged v p)
+      (λ e. miss second _ (p .page) two ∙ hit (first at new) v) (λ e. hit (first at new) v)
+  after-page empty = miss _ v (p .page) two
+
+  after-pot : (c : Change) → after c (p .pot) ≡ potAfter c
+  unfolding changedFrames writeFrames applyChanges
+  after-pot (put at new) = go (flagged v p)
+    where
+      go : (t : Bool) → applyChanges (first at new ∷ cond t (second ∷ []) []) v (p .pot) ≡ cond t cleared pot
+      go true = unfold applyChanges in (hit second _)
+      go false = unfold applyChanges in (miss (first at new) v (p .pot) (λ e. two (sym e)))
+  after-pot empty = hit _ v
+
+  after-else : (c : Change) (x : ℕ) → x ≢ p .pot → x ≢ p .page → after c x ≡ v x
+  unfolding changedFrames writeFrames applyChanges
+  after-else (put at new) x d e = byTest (λ (ws : List FrameBytes). applyChanges (first at new ∷ ws) v x ≡ v x) (flagged v p)
+      (λ k. miss second _ x d ∙ miss (first at new) v x e) (λ k. miss (first at new) v x e)
+  after-else empty x d e = miss _ v x d
+
+  -- ---- the pot's entries after it: its own, and the others
 
   abbrev counted : List ℕ
-  counted = putCount pot (p .entry) (suc (countAt pot (p .entry)))
+  counted = putCount pot (p .entry) (suc count)
 
   counted-long : length counted ≡ 512
   counted-long = putCount-length pot (p .entry) long in-pot _
 
-  abbrev after : Contents
-  after = applyChanges (rescindFrames v p) v
+  zero-is : (c : Change) → isZero (flagsAt (potAfter c) (p .entry)) ≡ zeroAfter c
+  unfolding zeroAfter rescindPot
+  zero-is (put at new) = byTest (λ (l : List ℕ). isZero (flagsAt l (p .entry)) ≡ false) (flagged v p)
+      (λ e. ap isZero (flags-same pot (p .entry) long in-pot (clearZero flags)) ∙ clear-is flags) (λ e. e)
+  zero-is empty = ap isZero (flags-same counted (p .entry) counted-long in-pot (setZero flags)) ∙ set-is flags
 
-  at-pot : after (p .pot) ≡ putFlags counted (p .entry) (setZero flags)
-  unfolding applyChanges rescindFrames rescindPot
-  at-pot = hit _ v
+  count-is : (c : Change) → CanMake c → countAt (potAfter c) (p .entry) ≡ changed c (pageOf v p) .count
+  unfolding rescindPot changed pageOf
+  count-is (put at new) h = byTest (λ (l : List ℕ). countAt l (p .entry) ≡ count) (flagged v p) (λ e. flags-count pot (p .entry) long in-pot (clearZero flags) (p .entry)) (λ e. refl)
+  count-is empty h = flags-count counted (p .entry) counted-long in-pot (setZero flags) (p .entry) ∙ count-same pot (p .entry) long in-pot _ h
 
-  pub rescind-row : countAt (v (p .pot)) (p .entry) < 4294967295 → rowOf (applyChanges (rescindFrames v p) v) p ≡ record { page = rescinded (pageOf v p); zero = true }
-  unfolding rowOf pageOf pageBytes
-  rescind-row h =
-      let test : flagged after p ≡ true = rw at-pot (ap isZero (flags-same counted (p .entry) counted-long in-pot (setZero flags)) ∙ set-is flags) in
-      let count-is : countAt (after (p .pot)) (p .entry) ≡ suc (countAt pot (p .entry)) =
-      rw at-pot (flags-count counted (p .entry) counted-long in-pot (setZero flags) (p .entry) ∙ count-same pot (p .entry) long in-pot _ (omega arith)) in
-      same-row (rw test) count-is test
+  flags-stay : (c : Change) (k : ℕ) → p .entry ≢ k → flagsAt (potAfter c) k ≡ flagsAt pot k
+  unfolding rescindPot
+  flags-stay (put at new) k d = byTest (λ (l : List ℕ). flagsAt l k ≡ flagsAt pot k) (flagged v p) (λ e. flags-other pot (p .entry) long in-pot (clearZero flags) k d) (λ e. refl)
+  flags-stay empty k d = flags-other counted (p .entry) counted-long in-pot (setZero flags) k d ∙ count-flags pot (p .entry) long in-pot _ k
 
-  pub rescind-other : (q : Address) → PlacesApart p q → rowOf (applyChanges (rescindFrames v p) v) q ≡ rowOf v q
-  rescind-other q a = other-row v after p q a
-      (λ k d. rw at-pot (flags-other counted (p .entry) counted-long in-pot (setZero flags) k d ∙ count-flags pot (p .entry) long in-pot _ k))
-      (λ k d. rw at-pot (flags-count counted (p .entry) counted-long in-pot (setZero flags) k ∙ count-other pot (p .entry) long in-pot _ k d))
-      else
+  count-stays : (c : Change) (k : ℕ) → p .entry ≢ k → countAt (potAfter c) k ≡ countAt pot k
+  unfolding rescindPot
+  count-stays (put at new) k d = byTest (λ (l : List ℕ). countAt l k ≡ countAt pot k) (flagged v p) (λ e. flags-count pot (p .entry) long in-pot (clearZero flags) k) (λ e. refl)
+  count-stays empty k d = flags-count counted (p .entry) counted-long in-pot (setZero flags) k ∙ count-other pot (p .entry) long in-pot _ k d
+
+  pub change-keeps : (c : Change) → All (KeepsPot v p) (changedFrames c v p)
+  unfolding changedFrames writeFrames rescindPot
+  change-keeps (put at new) = ((λ e. absurd (two e)), byTest (All (KeepsPot v p)) (flagged v p) (λ q. (kept, tt)) (λ q. tt))
     where
-      else : (x : ℕ) → x ≢ p .pot → x ≢ p .page → after x ≡ v x
-      else x d e = unfold applyChanges rescindFrames in (miss _ v x d)
-
-  pub rescind-keeps : All (KeepsPot v p) (rescindFrames v p)
-  unfolding rescindFrames rescindPot
-  rescind-keeps = (
+      kept : KeepsPot v p (record { frame = p .pot; bytes = cleared })
+      kept e = (ap (λ (n : ℕ). n / 2) (flags-same pot (p .entry) long in-pot (clearZero flags)) ∙ clear-keeps flags, flags-outside pot (p .entry) long in-pot (clearZero flags))
+  change-keeps empty = (
     (λ e. (
       ap (λ (n : ℕ). n / 2) (flags-same counted (p .entry) counted-long in-pot (setZero flags)) ∙ set-keeps flags,
       λ i out. flags-outside counted (p .entry) counted-long in-pot (setZero flags) i out ∙ count-outside pot (p .entry) long in-pot _ i out,
@@ -112,61 +164,30 @@ module _ (v : Contents) (p : Address) (two : p .page ≢ p .pot) (long : length 
     tt,
   )
 
-  -- ---- write
+  -- ---- rows after a change
 
-  abbrev cleared : List ℕ
-  cleared = putFlags pot (p .entry) (clearZero flags)
+  pub flag-after : (c : Change) → flagged (after c) p ≡ zeroAfter c
+  flag-after c = ap (λ (l : List ℕ). isZero (flagsAt l (p .entry))) (after-pot c) ∙ zero-is c
 
-  pub write-keeps : (at : ℕ) (new : List ℕ) → All (KeepsPot v p) (writeFrames v p at new)
-  unfolding writeFrames
-  write-keeps at new = ((λ e. absurd (two e)), byTest (All (KeepsPot v p)) (flagged v p) (λ q. (kept, tt)) (λ q. tt))
+  -- what is shown: zeros where the flag is set afterwards
+  shown : (c : Change) → cond (zeroAfter c) zeros (pageAfter c) ≡ changed c (pageOf v p) .bytes
+  unfolding zeroAfter changed pageOf
+  shown (put at new) = refl
+  shown empty = refl
+
+  bytes-after : (c : Change) → pageBytes (after c) p ≡ changed c (pageOf v p) .bytes
+  bytes-after c = seen ∙ shown c
     where
-      kept : KeepsPot v p (record { frame = p .pot; bytes = cleared })
-      kept e = (ap (λ (n : ℕ). n / 2) (flags-same pot (p .entry) long in-pot (clearZero flags)) ∙ clear-keeps flags, flags-outside pot (p .entry) long in-pot (clearZero flags))
+      seen : pageBytes (after c) p ≡ cond (zeroAfter c) zeros (pageAfter c)
+      seen = unfold pageBytes in (rw (flag-after c, after-page c))
 
-  -- the pot afterwards
-  abbrev clearedIf : List ℕ
-  clearedIf = cond (flagged v p) cleared pot
+  pub own-row : (c : Change) → CanMake c → rowOf (after c) p ≡ rowAfter c (rowOf v p)
+  unfolding rowOf
+  own-row c h = paged (bytes-after c) (ap (λ (l : List ℕ). countAt l (p .entry)) (after-pot c) ∙ count-is c h)
+    where
+      paged : pageBytes (after c) p ≡ changed c (pageOf v p) .bytes → countAt (after c (p .pot)) (p .entry) ≡ changed c (pageOf v p) .count → rowOf (after c) p ≡ rowAfter c (rowOf v p)
+      paged e f = unfold rowOf pageOf in (same-row e f (flag-after c))
 
-  clear-now : isZero (flagsAt clearedIf (p .entry)) ≡ false
-  clear-now = byTest (λ (l : List ℕ). isZero (flagsAt l (p .entry)) ≡ false) (flagged v p) (λ e. ap isZero (flags-same pot (p .entry) long in-pot (clearZero flags)) ∙ clear-is flags) (λ e. e)
-
-  flags-kept : (k : ℕ) → p .entry ≢ k → flagsAt clearedIf k ≡ flagsAt pot k
-  flags-kept k d = byTest (λ (l : List ℕ). flagsAt l k ≡ flagsAt pot k) (flagged v p) (λ e. flags-other pot (p .entry) long in-pot (clearZero flags) k d) (λ e. refl)
-
-  count-kept : (k : ℕ) → countAt clearedIf k ≡ countAt pot k
-  count-kept k = byTest (λ (l : List ℕ). countAt l k ≡ countAt pot k) (flagged v p) (λ e. flags-count pot (p .entry) long in-pot (clearZero flags) k) (λ e. refl)
-
-  module _ (at : ℕ) (new : List ℕ) where
-    abbrev first : FrameBytes
-    first = record { frame = p .page; bytes = patch (pageBytes v p) at new }
-
-    abbrev second : FrameBytes
-    second = record { frame = p .pot; bytes = cleared }
-
-    abbrev wrote : Contents
-    wrote = applyChanges (writeFrames v p at new) v
-
-    wrote-page : wrote (p .page) ≡ patch (pageBytes v p) at new
-    unfolding applyChanges writeFrames
-    wrote-page = byTest (λ (ws : List FrameBytes). applyChanges (first ∷ ws) v (p .page) ≡ patch (pageBytes v p) at new) (flagged v p)
-        (λ e. miss second _ (p .page) two ∙ hit first v) (λ e. hit first v)
-
-    wrote-pot : wrote (p .pot) ≡ clearedIf
-    unfolding applyChanges writeFrames
-    wrote-pot = go (flagged v p)
-      where
-        go : (t : Bool) → applyChanges (first ∷ cond t (second ∷ []) []) v (p .pot) ≡ cond t cleared pot
-        go true = hit second _
-        go false = miss first v (p .pot) (λ e. two (sym e))
-
-    wrote-else : (x : ℕ) → x ≢ p .pot → x ≢ p .page → wrote x ≡ v x
-    unfolding applyChanges writeFrames
-    wrote-else x d e = byTest (λ (ws : List FrameBytes). applyChanges (first ∷ ws) v x ≡ v x) (flagged v p) (λ k. miss second _ x d ∙ miss first v x e) (λ k. miss first v x e)
-
-    pub write-row : rowOf (applyChanges (writeFrames v p at new) v) p ≡ record { page = written at new (pageOf v p); zero = false }
-    unfolding rowOf pageOf pageBytes
-    write-row = let test : flagged wrote p ≡ false = rw wrote-pot clear-now in same-row (rw test wrote-page) (rw wrote-pot (count-kept (p .entry))) test
-
-    pub write-other : (q : Address) → PlacesApart p q → rowOf (applyChanges (writeFrames v p at new) v) q ≡ rowOf v q
-    write-other q a = other-row v wrote p q a (λ k d. rw wrote-pot (flags-kept k d)) (λ k d. rw wrote-pot (count-kept k)) wrote-else
+  pub other-rows : (c : Change) (q : Address) → PlacesApart p q → rowOf (after c) q ≡ rowOf v q
+  other-rows c q a = other-row v (after c) p q a
+      (λ k d. ap (λ (l : List ℕ). flagsAt l k) (after-pot c) ∙ flags-stay c k d) (λ k d. ap (λ (l : List ℕ). countAt l k) (after-pot c) ∙ count-stays c k d) (after-else c)

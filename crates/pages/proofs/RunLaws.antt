@@ -1,8 +1,6 @@
 -- From a list of page calls and cuts to a list of frame calls and cuts: beside each world of pages stands a world of frames, and their books tell the same.
 -- Assumes nothing.
-use Prim.Native.Nat.{ℕ, _+_, _/_, _≤_, _<_}
-use borrow.Author.Tests.{eqb-true}
-use lib.Dec.{eqb}
+use Prim.Native.Nat.{ℕ, _+_, _/_, _<_}
 use lib.ListN.{length}
 use mathlib.Core.Bool.{Bool, true, false, cond, _||_, not}
 use mathlib.Core.List.{List}
@@ -10,14 +8,11 @@ use mathlib.Core.Logic.{_≢_, _⊎_, inl, inr, ⊎-elim}
 use mathlib.Core.Option.{Option, none, some}
 use mathlib.Core.Path.{_≡_, refl, ap, sym, _∙_, subst}
 use native.Mathlib.Decide.{ℕ-discrete}
-use native.Mathlib.Omega.{arith}
-use Rattle.card.proofs.AddressLaws.{Within}
-use Rattle.card.proofs.Test.{byTest}
 use Rattle.card.specs.Block.{blockAt, putBlock}
 use Rattle.card.specs.Bytes.{All}
 use Rattle.card.specs.Header.{headerOn}
 use Rattle.card.specs.Question.{firstNo, headerRanges}
-use Rattle.card.specs.Range.{Range, allBlocks, locate}
+use Rattle.card.specs.Range.{Range, allBlocks}
 use Rattle.card.specs.declared.range.Address.{Address}
 use Rattle.card.specs.declared.range.Lookup.{Lookup}
 use Rattle.card.specs.declared.range.Lookup.the-variants.{Located, Outside}
@@ -28,15 +23,18 @@ use Rattle.frames.proofs.Run as run
 use Rattle.frames.proofs.Run.{FrameWorld, FrameRun, goes, firstWorld, Serves}
 use Rattle.frames.specs.Promise as frames
 use Rattle.frames.specs.Promise.{Lent, FrameAnswer, meaningOf}
-use Rattle.pages.proofs.AnswerLaws.{asked-both, write-passed, rescind-passed, frames-asked, block-done, block-none, kept-done, kept-refused, lowered}
-use Rattle.pages.proofs.BookLaws.{told-refused}
-use Rattle.pages.proofs.NeededLaws.{page-at, at-tells, pot-needed, page-needed, needed-same, write-brings, rescind-brings, not-true}
-use Rattle.pages.proofs.Represents.{write-whole, rescind-whole, write-same, rescind-same, accepted-full, SameBefore, Represents, represents-flushed, represents-cut, represents-start, represents-snapshot, represents-header, nothing-represents, in-p, pot-long, page-long, write-represents, rescind-represents, page-same}
-use Rattle.pages.specs.Book.{Table, Book, Event, called, update, presentTo, written as pageWritten, rescinded, headerReached, flushedBook, cutBook, isDone, isHeader, isFlush, told, bookAfter}
+use Rattle.pages.proofs.AnswerLaws.{asked-both, on-passed, frames-asked, block-done, block-none, kept-done, kept-refused, lowered}
+use Rattle.pages.proofs.BookLaws.{answered-page, refused-page, told-refused}
+use Rattle.pages.proofs.CanLaws.{passed-can}
+use Rattle.pages.proofs.EditLaws.{placeOn, Alike, page-alike}
+use Rattle.pages.proofs.NeededLaws.{needed-same, not-true}
+use Rattle.pages.proofs.Represents.{accepted-full, SameBefore, Represents, represents-flushed, represents-cut, represents-start, represents-snapshot, represents-header, rowsFrom, book-made, edits-represents}
+use Rattle.pages.specs.Book.{Book, Event, called, presentTo, headerReached, flushedBook, cutBook, isDone, isHeader, isFlush, told, bookAfter}
+use Rattle.pages.specs.Call.{PageCall, Call, start, on, snapshot, pageOut, advance, forecast, Answer, pageAsks, edits, pageAnswer, pageRefusal}
+use Rattle.pages.specs.Change.{Table, applied, atPlace, editFrames}
 use Rattle.pages.specs.Demand3.{World, lentTo, driveAfter, Step, calls, cutWithin, cutBetween, Run, ended, then}
-use Rattle.pages.specs.Needed.{pageAt, needed}
-use Rattle.pages.specs.Page.{Page, pageBytes, pageOf, writeFrames, rescindFrames, flagged}
-use Rattle.pages.specs.Promise.{Call, start, key, read, write, rescind, snapshot, pageOut, advance, forecast, Answer, refused, counted, filled, answered, addressOf, atPlace, presentFrames, presentCount, writeChanges, rescindChanges, asks, frameCall, doneAnswer, refusal, outcome, Kept, committedFrames, over, passedOf}
+use Rattle.pages.specs.Needed.{needed}
+use Rattle.pages.specs.Promise.{answered, addressOf, presentFrames, presentPage, callFrames, asks, frameCall, doneAnswer, refusal, outcome, Kept, committedFrames, over, passedOf}
 use Rattle.recovery.proofs.DriveLaws.{seen-written, left-spoilt}
 use Rattle.recovery.proofs.SumLaws.{passed-over, passed-within, passed-more, passed-owed}
 use Rattle.recovery.specs.Book.{FrameBook, applyChanges, bookChange, bookCut, WholeFrame, Brings}
@@ -73,10 +71,7 @@ at-place other (Located p) f h k = k p
 drive-done : (c : Call) (l : Lent) (o : Option BlockWrite) (v : Drive) → run.driveTold (frames.doneAnswer (frameCall c l) l) o v ≡ driveAfter (doneAnswer c l) o v
 unfolding frameCall doneAnswer
 drive-done (start m) l o v = unfold frames.doneAnswer isFlush in refl
-drive-done (key u) l o v = unfold frames.doneAnswer in (rw (at-place (refused 9) (addressOf l u) (λ p. counted (presentCount l p)) (unfold isFlush in refl) (λ p. unfold isFlush in refl)) refl)
-drive-done (read u n x) l o v = unfold frames.doneAnswer in (rw (at-place (filled 9 x) (addressOf l u) (λ p. filled 0 (pageBytes (presentFrames l) p)) (unfold isFlush in refl) (λ p. unfold isFlush in refl)) refl)
-drive-done (write u n at new) l o v = unfold frames.doneAnswer isFlush in refl
-drive-done (rescind u n) l o v = unfold frames.doneAnswer isFlush in refl
+drive-done (on u c) l o v = unfold frames.doneAnswer in (rw (at-place (pageRefusal c 9) (addressOf l u) (λ p. pageAnswer c (presentPage l p)) (refused-page c 9 .1) (λ p. answered-page c (presentPage l p) .1)) refl)
 drive-done snapshot l o v = unfold frames.doneAnswer isFlush in refl
 drive-done forecast l o v = unfold frames.doneAnswer isFlush in refl
 drive-done pageOut l o v = same-flush (frames.doneAnswer frames.pageOut l) o v
@@ -86,10 +81,7 @@ drive-done advance l o v = same-flush (frames.doneAnswer (frames.advance (passed
 refusal-flush : (c : Call) (n : ℕ) → isFlush (refusal c n) ≡ false
 unfolding refusal isFlush
 refusal-flush (start m) n = refl
-refusal-flush (key o) n = refl
-refusal-flush (read o k x) n = refl
-refusal-flush (write o k at new) n = refl
-refusal-flush (rescind o k) n = refl
+refusal-flush (on o c) n = refused-page c n .1
 refusal-flush snapshot n = refl
 refusal-flush pageOut n = refl
 refusal-flush advance n = refl
@@ -158,10 +150,10 @@ module _ (m₀ card₀ : List ℕ) (accepted : firstNo (startAsks m₀ card₀) 
       pub serves : Serves card₀ l
       serves = ⊎-elim (λ z. absurd (no-zeros (l .store) some-frames z)) (λ q. q) (frames-hold needs m₀ card₀ accepted (s .frames) (s .run) l (s .held-is ∙ held) .0)
 
-      pub address-is : (o : ℕ) → addressOf l o ≡ locate rs (1 + area) o
+      pub address-is : (o : ℕ) → addressOf l o ≡ placeOn rs area o
       address-is o = rw (serves .ranges-is, serves .area-is)
 
-      shown : (f : ℕ) → area < f → f < blocks → needs (book .present) f ≡ true → presentFrames l f ≡ book .present f
+      shown : Alike rs blocks area full (presentFrames l) (book .present)
       shown f low high t = frames-present needs m₀ card₀ accepted (s .frames) (s .run) l (s .held-is ∙ held) (serves .passes) f _ (low, high) t refl
 
       -- what is passed over is not needed in what is kept
@@ -186,46 +178,20 @@ module _ (m₀ card₀ : List ℕ) (accepted : firstNo (startAsks m₀ card₀) 
       asked ws h k = subst (λ (n : ℕ). All (WholeFrame n (l .store .geometry .blocks)) ws × Brings needs n (l .store .geometry .blocks) ws (book .present)) (sym (serves .area-is))
           (subst (λ (n : ℕ). All (WholeFrame area n) ws × Brings needs area n ws (book .present)) (sym (serves .blocks-is)) (h, k))
 
-      module _ (o : ℕ) (p : Address) (at-p : locate rs (1 + area) o ≡ Located p) where
-        inside : Within (1 + area) blocks p
-        inside = in-p rs blocks area full o p at-p
-
-        at-page : pageAt rs (1 + area) (p .page) ≡ Located p
-        at-page = page-at rs (1 + area) o p at-p
-
-        pot-is : presentFrames l (p .pot) ≡ book .present (p .pot)
-        pot-is = shown (p .pot) (omega (arith, inside)) (omega (arith, inside)) (pot-needed rs area blocks full (book .present) (p .pot) (at-tells rs (1 + area) (p .page) p at-page .pot-is))
-
-        page-is : flagged (book .present) p ≡ false → presentFrames l (p .page) ≡ book .present (p .page)
-        page-is h = shown (p .page) (omega (arith, inside)) (omega (arith, inside)) (page-needed rs area blocks full (book .present) (p .page) p at-page ∙ ap not h)
-
+      module _ (o : ℕ) (p : Address) (at-p : placeOn rs area o ≡ Located p) where
         -- its frames show the page as the book has it
-        pub page-shown : pageOf (presentFrames l) p ≡ b .present o
-        page-shown = page-same (presentFrames l) (book .present) p pot-is page-is ∙ s .same .present-is o p at-p
+        pub page-shown : presentPage l p ≡ b .present o
+        page-shown = page-alike rs blocks area full (presentFrames l) (book .present) shown o p at-p ∙ s .same .present-is o p at-p
 
-        two : p .page ≢ p .pot
-        two = omega (arith, inside)
-
-        long-pot : length (book .present (p .pot)) ≡ 512
-        long-pot = pot-long rs blocks area full o p at-p book b (s .same)
-
-        write-news : (at : ℕ) (new : List ℕ) → at + length new ≤ 512 → News (writeChanges l at new p) (presentTo (update o (pageWritten at new (b .present o)) (b .present)) b)
-        unfolding writeChanges applyChanges
-        write-news at new short = byTest (λ (ws : List FrameBytes). News ws (presentTo (update o (pageWritten at new (b .present o)) (b .present)) b)) (eqb (length new) 0)
-            (λ e. ((tt, λ f l h k t. t), nothing-represents rs blocks area full book b (s .same) o at new (eqb-true _ _ e)))
-            (λ e. rw (write-same (presentFrames l) (book .present) p at new pot-is page-is)
-            (asked (writeFrames (book .present) p at new) home (write-brings rs area blocks full (book .present) p at-page two long-pot (inside .entry-high) at new), write-represents rs blocks area full o p at-p book b (s .same) at new home))
-          where
-            home : All (WholeFrame area blocks) (writeFrames (book .present) p at new)
-            home = write-whole area blocks (book .present) p inside long-pot (page-long rs blocks area full o p at-p book b (s .same)) at new short
-
-        rescind-news : presentCount l p < 4294967295 → News (rescindChanges l p) (presentTo (update o (rescinded (b .present o)) (b .present)) b)
-        unfolding rescindChanges pageOf
-        rescind-news few =
-            let home = rescind-whole area blocks (book .present) p inside long-pot in
-            let count-is : presentCount l p ≡ b .present o .count = ap (λ (x : Page). x .count) page-shown in
-            rw (rescind-same (presentFrames l) (book .present) p pot-is)
-            (asked (rescindFrames (book .present) p) home (rescind-brings rs area blocks full (book .present) p at-page two long-pot (inside .entry-high) (rw (← pot-is) few)), rescind-represents rs blocks area full o p at-p book b (s .same) (rw (← count-is) few) home)
+        -- a call that passes what is asked of the page: both books are told of its changes
+        on-news : (c : PageCall) → firstNo (pageAsks c (presentPage l p)) ≡ 0 → News (callFrames o c l) (presentTo (applied (edits o c) (b .present)) b)
+        unfolding callFrames
+        on-news c ok =
+            let can = passed-can rs blocks area full o p at-p (rowsFrom rs blocks area full (book .present) (b .present)) c (rw (← page-shown) ok) in
+            let made = book-made rs blocks area full book b (s .same) (edits o c) can in
+            let places : addressOf l ≡ placeOn rs area = λ i u. address-is u i in
+            rw (places, made .alike (presentFrames l) shown)
+            (asked (editFrames (placeOn rs area) (edits o c) (book .present)) (made .whole) (made .brings), edits-represents rs blocks area full book b (s .same) (edits o c) can)
 
     -- ---- a call that is done: its frame call may be asked for, and both books are told the same
 
@@ -249,18 +215,12 @@ module _ (m₀ card₀ : List ℕ) (accepted : firstNo (startAsks m₀ card₀) 
         × Told (run.told (frameCall c l) (frames.doneAnswer (frameCall c l) l) book) (run.beforeTold (frames.doneAnswer (frameCall c l) l) book (s .frames .before)) (told (called c (doneAnswer c l)) b)
     unfolding frameCall doneAnswer frames.doneAnswer told run.told isDone applyChanges atPlace
     done-told l (start m) e ok = (tt, (represents-start rs blocks area full book b (s .same), s .before-is))
-    done-told l (key o) e ok = ((tt, λ f l h k t. t), (s .same, s .before-is))
-    done-told l (read o n x) e ok = ((tt, λ f l h k t. t), (s .same, s .before-is))
-    done-told l (write o n at new) e ok =
-        let q = asked-both (write o n at new) l tt ok in
+    done-told l (on o c) e ok =
+        let q = asked-both (on o c) l tt ok in
         let low = has-frames l (q .0) in
-        let f = write-passed l o n at new (q .1) in
-        rw (f .place-is) (let n = write-news l e low o (f .place) (sym (address-is l e low o) ∙ f .place-is) at new (f .short) in (n .0, (n .1, s .before-is)))
-    done-told l (rescind o n) e ok =
-        let q = asked-both (rescind o n) l tt ok in
-        let low = has-frames l (q .0) in
-        let f = rescind-passed l o n (q .1) in
-        rw (f .place-is) (let n = rescind-news l e low o (f .place) (sym (address-is l e low o) ∙ f .place-is) (rw (f .count-is) (f .few)) in (n .0, (n .1, s .before-is)))
+        let f = on-passed o c l (q .1) in
+        let news = on-news l e low o (f .place) (sym (address-is l e low o) ∙ f .place-is) c (f .page) in
+        rw (f .place-is, answered-page c (presentPage l (f .place)) .0) (news .0, (news .1, s .before-is))
     done-told l snapshot e ok = (tt, (represents-snapshot rs blocks area full book b (s .same), s .before-is))
     done-told l pageOut e ok = (tt, (s .same, s .before-is))
     done-told l forecast e ok = ((tt, λ f l h k t. t), (s .same, s .before-is))
@@ -271,10 +231,7 @@ module _ (m₀ card₀ : List ℕ) (accepted : firstNo (startAsks m₀ card₀) 
     lent-is : (c : Call) (l : Lent) → lentTo c w ≡ some l → run.lentTo (frameCall c l) (s .frames) ≡ some l
     unfolding frameCall
     lent-is (start m) l e = rw (s .seen-is) e
-    lent-is (key o) l e = s .held-is ∙ e
-    lent-is (read o n x) l e = s .held-is ∙ e
-    lent-is (write o n at new) l e = s .held-is ∙ e
-    lent-is (rescind o n) l e = s .held-is ∙ e
+    lent-is (on o c) l e = s .held-is ∙ e
     lent-is snapshot l e = s .held-is ∙ e
     lent-is pageOut l e = s .held-is ∙ e
     lent-is advance l e = s .held-is ∙ e
@@ -300,10 +257,7 @@ module _ (m₀ card₀ : List ℕ) (accepted : firstNo (startAsks m₀ card₀) 
           same = unfold run.told in (s .same);
           before-is = s .before-is;
         }
-    called-refused (key o) l e z = stands l e
-    called-refused (read o n x) l e z = stands l e
-    called-refused (write o n at new) l e z = stands l e
-    called-refused (rescind o n) l e z = stands l e
+    called-refused (on o c) l e z = stands l e
     called-refused snapshot l e z = stands l e
     called-refused pageOut l e z = stands l e
     called-refused advance l e z = stands l e
@@ -335,7 +289,7 @@ module _ (m₀ card₀ : List ℕ) (accepted : firstNo (startAsks m₀ card₀) 
         go (no z) =
             let r = kept-refused c l l′ a k z in
             let none-is = block-none c l z in
-            rw (r .0, r .1, told-refused c (firstNo (asks c l)) b, refusal-flush c (firstNo (asks c l)), none-is, or-false (w .complete)) (called-refused c l e z)
+            rw (r .0, r .1, told-refused c (firstNo (asks c l)) b z, refusal-flush c (firstNo (asks c l)), none-is, or-false (w .complete)) (called-refused c l e z)
 
     -- a cut
     cut-told : (reached : Bool) → Same (bookCut (s .frames .before) reached book) (cutBook (b .before) reached b) × SameBefore rs blocks area full none (cutBook (b .before) reached b .before)

@@ -1,18 +1,13 @@
 -- The book (document 01, 'The book'): ONE function from what is told of an event to the next book.
 -- Assumes nothing.
-use Prim.Native.Nat.{ℕ, suc}
 use lib.Dec.{eqb}
 use mathlib.Core.Bool.{Bool, true, false, cond}
 use mathlib.Core.List.{List, [], _∷_}
 use mathlib.Core.Option.{Option, none, some, Option·getD}
-use Rattle.card.specs.Bytes.{patch, zeros}
-use Rattle.pages.specs.Page.{Page, emptyPage}
-use Rattle.pages.specs.Promise.{Call, start, key, read, write, rescind, snapshot, pageOut, advance, forecast, Answer, refused, done, counted, filled, wrote, foretold}
+use Rattle.pages.specs.Call.{Call, start, on, snapshot, pageOut, advance, forecast, Answer, refused, done, counted, filled, wrote, foretold, edits}
+use Rattle.pages.specs.Change.{Table, applied}
+use Rattle.pages.specs.Page.{emptyPage}
 use Rattle.recovery.specs.Step.{page, directory, trailer, migration, header, flush}
-
--- a page for each OID; those of the ranges matter
-abbrev pub Table : Type 0
-Table = ℕ → Page
 
 -- what is present; what the last snapshot marked, until a header write reaches the card or a start empties it; what
 -- is kept; what was kept before the last header write, while that is not flushed
@@ -33,19 +28,8 @@ pub data Event : Type 0 where
 abbrev pub formatBook : Book
 formatBook = record { present = λ o. emptyPage; marked = none; kept = λ o. emptyPage; before = none }
 
--- a table with another row
-unfoldable pub update : {A : Type 0} → ℕ → A → (ℕ → A) → ℕ → A
-update oid x t o = cond (eqb o oid) x (t o)
-
 abbrev pub presentTo : Table → Book → Book
 presentTo t b = record { present = t; marked = b .marked; kept = b .kept; before = b .before }
-
--- a page after a write and after a rescind
-abbrev pub written : ℕ → List ℕ → Page → Page
-written at new x = record { bytes = patch (x .bytes) at new; count = x .count }
-
-abbrev pub rescinded : Page → Page
-rescinded x = record { bytes = zeros; count = suc (x .count) }
 
 -- a header write reached the card: kept becomes marked, unless that is empty; until it is flushed, a cut may still
 -- find it old
@@ -97,13 +81,10 @@ isFlush (wrote header n) = false
 isFlush (wrote flush n) = true
 isFlush (foretold n) = false
 
--- the book after an event
+-- the book after an event; a call on a page that is done makes its changes in present
 unfoldable pub told : Event → Book → Book
 told (called (start m) a) b = cond (isDone a) (record { present = b .kept; marked = none; kept = b .kept; before = b .before }) b
-told (called (key o) a) b = b
-told (called (read o n x) a) b = b
-told (called (write o n at new) a) b = cond (isDone a) (presentTo (update o (written at new (b .present o)) (b .present)) b) b
-told (called (rescind o n) a) b = cond (isDone a) (presentTo (update o (rescinded (b .present o)) (b .present)) b) b
+told (called (on o c) a) b = cond (isDone a) (presentTo (applied (edits o c) (b .present)) b) b
 told (called snapshot a) b = cond (isDone a) (record { present = b .present; marked = some (b .present); kept = b .kept; before = b .before }) b
 told (called pageOut a) b = b
 told (called advance a) b = cond (isHeader a) (headerReached b) (cond (isFlush a) (flushedBook b) b)

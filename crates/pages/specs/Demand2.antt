@@ -11,8 +11,9 @@ use Prim.Native.Nat.{ℕ}
 use mathlib.Core.List.{List, [], _∷_}
 use mathlib.Core.Path.{_≡_}
 use Rattle.frames.specs.Promise.{Lent, lent}
+use Rattle.pages.specs.Call.{Call, start, Answer, done}
 use Rattle.pages.specs.Plain.{Plain, plainOf, plainDoes}
-use Rattle.pages.specs.Promise.{Call, start, Answer, done, Kept}
+use Rattle.pages.specs.Promise.{Kept}
 use Rattle.record.specs.Meaning.{zeroStore}
 use Rattle.recovery.specs.Step.{startState}
 use Rattle.recovery.specs.Write.{putDown}

@@ -25,8 +25,9 @@ use Rattle.card.specs.Block.{whole}
 use Rattle.card.specs.Range.{rangeIn}
 use Rattle.frames.specs.Promise.{Lent, lent}
 use Rattle.pages.specs.Book.{Event, called, cutIn, cut, isFlush, formatBook, bookAfter}
+use Rattle.pages.specs.Call.{key, read, Call, start, on, snapshot, pageOut, advance, forecast, Answer, done, counted, filled}
 use Rattle.pages.specs.Page.{Page}
-use Rattle.pages.specs.Promise.{Call, start, key, read, write, rescind, snapshot, pageOut, advance, forecast, Answer, done, counted, filled, outcome, Kept, FormatKept}
+use Rattle.pages.specs.Promise.{outcome, Kept, FormatKept}
 use Rattle.record.specs.Meaning.{zeroStore}
 use Rattle.recovery.specs.Write.{BlockWrite, Drive, seen, settled, written, Adversary, Left, Spoilt, Cut, ReachedIs}
 
@@ -40,10 +41,7 @@ pub record World : Type 0 where
 -- start takes no earlier record; every other call is lent what is held
 abbrev pub lentTo : Call → World → Option Lent
 lentTo (start m) w = some (lent zeroStore m (seen (w .drive)))
-lentTo (key o) w = w .held
-lentTo (read o n x) w = w .held
-lentTo (write o n at new) w = w .held
-lentTo (rescind o n) w = w .held
+lentTo (on o c) w = w .held
 lentTo snapshot w = w .held
 lentTo pageOut w = w .held
 lentTo advance w = w .held
@@ -74,7 +72,7 @@ OfRanges numbers oid = (i : ℕ) × (i < length numbers / 2) × (rangeIn numbers
 
 -- key gives the page's count, and read with that key its bytes
 abbrev pub Shows : Lent → ℕ → Page → Type 0
-Shows l oid p = (a b : Answer) (l₁ l₂ : Lent) (buffer : List ℕ) → length buffer ≡ 512 → Kept (key oid) l a l₁ → Kept (read oid (p .count) buffer) l₁ b l₂
+Shows l oid p = (a b : Answer) (l₁ l₂ : Lent) (buffer : List ℕ) → length buffer ≡ 512 → Kept (on oid key) l a l₁ → Kept (on oid (read (p .count) buffer)) l₁ b l₂
     → (a ≡ counted (p .count)) × (b ≡ filled 0 (p .bytes))
 
 -- the drive after a format: any of which the card that is seen is the formatted one

@@ -19,17 +19,15 @@ use mathlib.Core.List.{List, [], _∷_}
 use mathlib.Core.Path.{_≡_}
 use Rattle.frames.specs.Promise.{Lent, lent}
 use Rattle.pages.specs.Book.{isDone, isHeader, isFlush}
+use Rattle.pages.specs.Call.{Call, start, on, snapshot, pageOut, advance, forecast, Answer, refused, done, foretold}
 use Rattle.pages.specs.Demand2.{NoStart, Calls}
-use Rattle.pages.specs.Promise.{Call, start, key, read, write, rescind, snapshot, pageOut, advance, forecast, Answer, refused, done, foretold, Kept}
+use Rattle.pages.specs.Promise.{Kept}
 use Rattle.record.specs.Meaning.{zeroStore}
 
 -- what may stand among the advances, with its answer
 abbrev pub MayStand : Call → Answer → Type 0
 MayStand (start m) a = ⊥
-MayStand (key o) a = Unit {0}
-MayStand (read o n x) a = Unit {0}
-MayStand (write o n at new) a = Unit {0}
-MayStand (rescind o n) a = Unit {0}
+MayStand (on o c) a = Unit {0}
 MayStand snapshot a = isDone a ≡ false
 MayStand pageOut a = isDone a ≡ false
 MayStand advance a = Unit {0}
@@ -43,10 +41,7 @@ Undisturbed (c ∷ cs) (a ∷ as′) = MayStand c a × Undisturbed cs as′
 -- the answers of the advances alone
 abbrev pub ofAdvance : {A : Type 0} → Call → A → List A → List A
 ofAdvance (start m) a rest = rest
-ofAdvance (key o) a rest = rest
-ofAdvance (read o n x) a rest = rest
-ofAdvance (write o n at new) a rest = rest
-ofAdvance (rescind o n) a rest = rest
+ofAdvance (on o c) a rest = rest
 ofAdvance snapshot a rest = rest
 ofAdvance pageOut a rest = rest
 ofAdvance advance a rest = a ∷ rest

@@ -1,6 +1,8 @@
 -- The promise of the calls, the book, the two demands, and what a forecast is worth.
 pub mod Page
 pub mod Needed
+pub mod Change
+pub mod Call
 pub mod Promise
 pub mod Book
 pub mod Plain

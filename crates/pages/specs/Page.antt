@@ -1,15 +1,15 @@
--- A page as its two frames tell of it, the frames that a call changes, and what format leaves (document 01, 'The card' and 'The calls').
+-- A page as its two frames tell of it, and what format leaves (document 01, 'The card' and 'The calls').
 -- Assumes nothing.
-use Prim.Native.Nat.{ℕ, suc, _+_}
+use Prim.Native.Nat.{ℕ, _+_}
 use mathlib.Core.Bool.{Bool, cond}
 use mathlib.Core.List.{List, [], _∷_}
 use Rattle.card.specs.Block.{putBlock}
-use Rattle.card.specs.Bytes.{patch, zeros}
+use Rattle.card.specs.Bytes.{zeros}
 use Rattle.card.specs.Header.{headerBlock}
-use Rattle.card.specs.Pot.{countAt, flagsAt, putCount, putFlags, isZero, setZero, clearZero, freshPot}
+use Rattle.card.specs.Pot.{countAt, flagsAt, isZero, freshPot}
 use Rattle.card.specs.Range.{Range, allPots}
 use Rattle.card.specs.declared.range.Address.{Address}
-use Rattle.recovery.specs.Contents.{Contents, FrameBytes}
+use Rattle.recovery.specs.Contents.{Contents}
 
 -- what key and read show of a page
 pub record Page : Type 0 where
@@ -30,19 +30,6 @@ pageBytes v p = cond (flagged v p) zeros (v (p .page))
 
 unfoldable pub pageOf : Contents → Address → Page
 pageOf v p = record { bytes = pageBytes v p; count = countAt (v (p .pot)) (p .entry) }
-
--- a write: the page first, on zeros if the flag was set, then, if it was, the pot with the flag cleared
-unfoldable pub writeFrames : Contents → Address → ℕ → List ℕ → List FrameBytes
-writeFrames v p at new =
-    record { frame = p .page; bytes = patch (pageBytes v p) at new }
-    ∷ cond (flagged v p) (record { frame = p .pot; bytes = putFlags (v (p .pot)) (p .entry) (clearZero (flagsAt (v (p .pot)) (p .entry))) } ∷ []) []
-
--- a rescind: the pot alone, with 1 added to the count and the flag set
-unfoldable pub rescindPot : List ℕ → ℕ → List ℕ
-rescindPot pot i = putFlags (putCount pot i (suc (countAt pot i))) i (setZero (flagsAt pot i))
-
-unfoldable pub rescindFrames : Contents → Address → List FrameBytes
-rescindFrames v p = record { frame = p .pot; bytes = rescindPot (v (p .pot)) (p .entry) } ∷ []
 
 -- format: each pot, then the header, and no other block
 unfoldable pub putPots : List ℕ → List ℕ → List ℕ

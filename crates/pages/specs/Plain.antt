@@ -1,16 +1,18 @@
 -- The plain machine of demand 2: tables of pages and counts, and a ledger of numbers. After start it sees no card, no
 -- memory and no record. With the calls it shares what a change, a snapshot, a page-out and each kind of advance make
--- of a generation (recovery's Step, here without bytes), the place of an OID (question 9), the frames of a write and
--- a rescind, the blocks of directory and trailer, which frames of a table are empty pages (Needed), and how many
--- entries count as passed over (Sums: passedTo). Its answers, its other questions, when a flush is due, which kind is
--- next and whether one is (Sums: remainingWrites), the forecast (Sums: commitSum), the bytes of pages, and by which
--- table pages are empty are its own.
+-- of a generation (recovery's Step, here without bytes), the place of an OID (question 9), which changes a call makes
+-- (Call: edits) and the frames behind them (Change: editFrames), the form of a refusal, the blocks of directory and
+-- trailer, which frames of a table are empty pages (Needed), and how many entries count as passed over (Sums:
+-- passedTo); with the book, what a change makes of a page (Change: changed). Its answers, its other questions, 10, 11
+-- and 15 among them, the frames that count for k, the flags, when a flush is due, which kind is next and whether one is
+-- (Sums: remainingWrites), the forecast (Sums: commitSum), the bytes of pages, and by which table pages are empty are
+-- its own.
 -- Assumes nothing.
 use Prim.Native.Nat.{ℕ, _+_}
 use lib.Dec.{leb, ltb, eqb}
 use lib.ListN.{length, replicate}
 use mathlib.Core.Bool.{Bool, true, false, cond, _||_, not}
-use mathlib.Core.List.{List, [], _∷_}
+use mathlib.Core.List.{List, [], _∷_, _++_}
 use mathlib.Core.Option.{Option, none, some}
 use Rattle.card.specs.Header.{headerBlock}
 use Rattle.card.specs.Question.{Question, ask, firstNo}
@@ -19,10 +21,11 @@ use Rattle.card.specs.Ring.{ringAt}
 use Rattle.card.specs.declared.range.Address.{Address}
 use Rattle.card.specs.declared.range.Lookup.{Lookup}
 use Rattle.frames.specs.Promise.{advanced}
-use Rattle.pages.specs.Book.{update, written, rescinded}
+use Rattle.pages.specs.Call.{PageCall, key, read, write, rescind, Call, start, on, snapshot, pageOut, advance, forecast, Answer, refused, done, counted, filled, wrote, foretold, edits}
+use Rattle.pages.specs.Change.{Change, put, empty, Edit, update, changed, atPlace, editFrames}
 use Rattle.pages.specs.Needed.{needed}
-use Rattle.pages.specs.Page.{Page, flagged, pageOf, writeFrames, rescindFrames}
-use Rattle.pages.specs.Promise.{Call, start, key, read, write, rescind, snapshot, pageOut, advance, forecast, Answer, refused, done, counted, filled, wrote, foretold, atPlace, placed, refusal}
+use Rattle.pages.specs.Page.{Page, flagged, pageOf}
+use Rattle.pages.specs.Promise.{placed, refusal}
 use Rattle.recovery.specs.Book.{FrameBook, markedOr, bookChange, bookSnapshot, bookWrote}
 use Rattle.recovery.specs.Contents.{Contents, FrameBytes}
 use Rattle.recovery.specs.Directory.{frameOf}
@@ -83,16 +86,35 @@ ledgerOf t = phaseTo (t .phase) (t .ledger)
 abbrev pub plainAddress : Plain → ℕ → Lookup
 plainAddress t o = locate (t .ledger .ranges) (1 + t .ledger .area) o
 
--- ---- the frames that a call changes, by their numbers: a write its page, and its pot if the flag was set; a rescind its pot
+-- ---- changes in the rows, and the frames that they touch, by their numbers
 
 abbrev pub touched : ℕ → FrameBytes
 touched f = record { frame = f; bytes = [] }
 
-unfoldable pub writeTouches : Row → List ℕ → Address → List FrameBytes
-writeTouches r new p = cond (eqb (length new) 0) [] (touched (p .page) ∷ cond (r .zero) (touched (p .pot) ∷ []) [])
+-- a write touches its page, and its pot if the flag was set; a rescind its pot
+unfoldable pub touches : Change → Row → Address → List FrameBytes
+touches (put at new) r p = touched (p .page) ∷ cond (r .zero) (touched (p .pot) ∷ []) []
+touches empty r p = touched (p .pot) ∷ []
 
-abbrev pub rescindTouches : Address → List FrameBytes
-rescindTouches p = touched (p .pot) ∷ []
+-- the flag afterwards, and the row
+unfoldable pub zeroAfter : Change → Bool
+zeroAfter (put at new) = false
+zeroAfter empty = true
+
+abbrev pub rowAfter : Change → Row → Row
+rowAfter c r = record { page = changed c (r .page); zero = zeroAfter c }
+
+-- the rows after one change, and after a list of them
+abbrev pub rowChanged : Edit → (ℕ → Row) → ℕ → Row
+rowChanged e rows = update (e .oid) (rowAfter (e .change) (rows (e .oid))) rows
+
+unfoldable pub rowsAfter : List Edit → (ℕ → Row) → ℕ → Row
+rowsAfter [] rows = rows
+rowsAfter (e ∷ es) rows = rowsAfter es (rowChanged e rows)
+
+unfoldable pub editTouches : (ℕ → Lookup) → List Edit → (ℕ → Row) → List FrameBytes
+editTouches place [] rows = []
+editTouches place (e ∷ es) rows = atPlace [] (place (e .oid)) (touches (e .change) (rows (e .oid))) ++ editTouches place es (rowChanged e rows)
 
 -- ---- migration passes over pages whose flag is set in what is kept
 
@@ -110,12 +132,16 @@ abbrev pub isNone : Option Contents → Bool
 isNone none = true
 isNone (some v) = false
 
+-- of a page, by its row
+unfoldable pub rowAsks : PageCall → Row → List Question
+rowAsks key r = []
+rowAsks (read n b) r = ask 10 (eqb (r .page .count) n) ∷ ask 11 (eqb (length b) 512) ∷ []
+rowAsks (write n at new) r = ask 10 (eqb (r .page .count) n) ∷ ask 11 (leb (at + length new) 512) ∷ []
+rowAsks (rescind n) r = ask 10 (eqb (r .page .count) n) ∷ ask 15 (ltb n 4294967295) ∷ []
+
 unfoldable pub plainAsks : Call → Plain → List Question
 plainAsks (start m) t = []  -- the list has no start
-plainAsks (key o) t = placed (plainAddress t o) (λ p. [])
-plainAsks (read o n x) t = placed (plainAddress t o) (λ p. ask 10 (eqb (t .rows o .page .count) n) ∷ ask 11 (eqb (length x) 512) ∷ [])
-plainAsks (write o n at new) t = placed (plainAddress t o) (λ p. ask 10 (eqb (t .rows o .page .count) n) ∷ ask 11 (leb (at + length new) 512) ∷ roomSums (writeTouches (t .rows o) new p) (t .ledger))
-plainAsks (rescind o n) t = placed (plainAddress t o) (λ p. ask 10 (eqb (t .rows o .page .count) n) ∷ ask 15 (ltb n 4294967295) ∷ roomSums (rescindTouches p) (t .ledger))
+plainAsks (on o c) t = placed (plainAddress t o) (λ p. rowAsks c (t .rows o) ++ roomSums (editTouches (plainAddress t) (edits o c) (t .rows)) (t .ledger))
 plainAsks snapshot t = ask 16 (isNone (t .frames .marked)) ∷ ask 17 (t .changed) ∷ ask 18 (ltb (t .ledger .commit) 4294967295) ∷ []
 plainAsks pageOut t = ask 28 (not (isOwed (t .phase))) ∷ ask 19 (ltb 0 (length (t .ledger .pending .waiting)) || ltb 0 (length (t .ledger .current .waiting))) ∷ []
 plainAsks advance t = advanceSums (plainOver t) (ledgerOf t)
@@ -149,22 +175,22 @@ pub record PlainOutcome : Type 0 where
 abbrev pub answers : Answer → Plain → PlainOutcome
 answers a t = record { answer = a; write = none; next = t }
 
-unfoldable pub plainWrite : ℕ → ℕ → List ℕ → Plain → Address → Plain
-plainWrite o at new t p = cond (eqb (length new) 0) t (record {
-  rows = update o (record { page = written at new (t .rows o .page); zero = false }) (t .rows);
-  changed = true;
-  phase = t .phase;
-  ledger = afterChange (writeTouches (t .rows o) new p) (t .ledger);
-  frames = bookChange (writeFrames (t .frames .present) p at new) (t .frames);
-})
+-- the answer of a call on a page, by its row
+unfoldable pub rowAnswer : PageCall → Row → Answer
+rowAnswer key r = counted (r .page .count)
+rowAnswer (read n b) r = filled 0 (r .page .bytes)
+rowAnswer (write n at new) r = done
+rowAnswer (rescind n) r = done
 
-unfoldable pub plainRescind : ℕ → Plain → Address → Plain
-plainRescind o t p = record {
-  rows = update o (record { page = rescinded (t .rows o .page); zero = true }) (t .rows);
+-- the tables after a list of changes
+unfoldable pub plainEdits : List Edit → Plain → Plain
+plainEdits [] t = t
+plainEdits (e ∷ es) t = record {
+  rows = rowsAfter (e ∷ es) (t .rows);
   changed = true;
   phase = t .phase;
-  ledger = afterChange (rescindTouches p) (t .ledger);
-  frames = bookChange (rescindFrames (t .frames .present) p) (t .frames);
+  ledger = afterChange (editTouches (plainAddress t) (e ∷ es) (t .rows)) (t .ledger);
+  frames = bookChange (editFrames (plainAddress t) (e ∷ es) (t .frames .present)) (t .frames);
 }
 
 unfoldable pub plainAdvance : Option Kind → Plain → PlainOutcome
@@ -183,10 +209,7 @@ plainAdvance (some k) t = record {
 
 unfoldable pub plainDone : Call → Plain → PlainOutcome
 plainDone (start m) t = answers done t  -- the list has no start
-plainDone (key o) t = answers (counted (t .rows o .page .count)) t
-plainDone (read o n x) t = answers (filled 0 (t .rows o .page .bytes)) t
-plainDone (write o n at new) t = answers done (atPlace t (plainAddress t o) (plainWrite o at new t))
-plainDone (rescind o n) t = answers done (atPlace t (plainAddress t o) (plainRescind o t))
+plainDone (on o c) t = answers (rowAnswer c (t .rows o)) (plainEdits (edits o c) t)
 plainDone snapshot t = answers done (record {
   rows = t .rows;
   changed = false;

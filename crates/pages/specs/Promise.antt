@@ -1,23 +1,24 @@
 -- The promise of the ten calls: what each is to do with what it is lent, refusals included (document 01, 'The calls' and 'Questions asked').
 -- Assumes nothing.
 use Prim.Native.Nat.{ℕ, _+_, _/_, _%_, _<_}
-use lib.Dec.{leb, ltb, eqb}
+use lib.Dec.{eqb}
 use lib.ListN.{length}
 use mathlib.Core.Bool.{Bool, false, cond, not, _&&_}
 use mathlib.Core.List.{List, [], _∷_, _++_}
 use mathlib.Core.Path.{_≡_}
 use Rattle.card.specs.Block.{whole}
-use Rattle.card.specs.Pot.{countAt}
 use Rattle.card.specs.Question.{Question, ask, firstNo}
 use Rattle.card.specs.Range.{Range, rangesOf, geometryFits, locate}
 use Rattle.card.specs.declared.range.Address.{Address}
 use Rattle.card.specs.declared.range.Lookup.{Lookup}
-use Rattle.card.specs.declared.range.Lookup.the-variants.{Located, Outside}
+use Rattle.card.specs.declared.range.Lookup.the-variants.{Located}
 use Rattle.frames.specs.Parts.{CommittedParts, Readable}
 use Rattle.frames.specs.Promise as frames
 use Rattle.frames.specs.Promise.{Lent, meaningOf, common, Outcome, outcomeOf, Keeps, FrameCall, FrameAnswer, numbered, past}
+use Rattle.pages.specs.Call.{PageCall, Call, start, on, snapshot, pageOut, advance, forecast, Answer, refused, done, counted, wrote, foretold, pageAsks, edits, pageAnswer, pageRefusal}
+use Rattle.pages.specs.Change.{atPlace, editFrames}
 use Rattle.pages.specs.Needed.{needed}
-use Rattle.pages.specs.Page.{pageBytes, writeFrames, rescindFrames, formatCard}
+use Rattle.pages.specs.Page.{Page, pageOf, formatCard}
 use Rattle.pages.specs.declared.answer.Count.{Count}
 use Rattle.pages.specs.declared.answer.Count.the-variants.{Present, Refused}
 use Rattle.pages.specs.declared.answer.Forecast.{Forecast}
@@ -28,27 +29,8 @@ use Rattle.record.specs.declared.store.Store.{Store}
 use Rattle.recovery.specs.Contents.{Contents, FrameBytes}
 use Rattle.recovery.specs.Questions.{startAsks, roomAsks, snapshotAsks, pageOutAsks, advanceAsks}
 use Rattle.recovery.specs.State.{readFrame, committedFrame}
-use Rattle.recovery.specs.Step.{Kind}
 use Rattle.recovery.specs.Sums as sums
 use Rattle.recovery.specs.Sums.{movesLeft, passedTo}
-
--- the calls but format, which stands apart; an OID and a count are a key. Start's memory is the one that it is lent
-pub data Call : Type 0 where
-  start : (memory : List ℕ) → Call
-  key : (oid : ℕ) → Call
-  read : (oid count : ℕ) (buffer : List ℕ) → Call
-  write : (oid count at : ℕ) (new : List ℕ) → Call
-  rescind : (oid count : ℕ) → Call
-  snapshot pageOut advance forecast : Call
-
--- refused with document 01's number; done; key's count; read's number, 0 where it is done, and its buffer after the call, refused or not; the kind and block that advance or page-out wrote; how many advances forecast tells
-pub data Answer : Type 0 where
-  refused : (number : ℕ) → Answer
-  done : Answer
-  counted : (count : ℕ) → Answer
-  filled : (number : ℕ) (buffer : List ℕ) → Answer
-  wrote : Kind → (block : ℕ) → Answer
-  foretold : (advances : ℕ) → Answer
 
 -- what the code answers: as the frame layer does, a count, or a forecast
 unfoldable pub answered : FrameAnswer → Answer
@@ -66,17 +48,16 @@ foretoldAs (Forecasts.Refused n) = refused n
 
 -- ---- pages
 
--- the place of an OID by what the record that is lent means, and what is made of it
+-- the place of an OID by what the record that is lent means
 abbrev pub addressOf : Lent → ℕ → Lookup
 addressOf l oid = locate (meaningOf l .ranges) (1 + meaningOf l .area) oid
 
-unfoldable pub atPlace : {A : Type 0} → A → Lookup → (Address → A) → A
-atPlace other Outside f = other
-atPlace other (Located p) f = f p
-
--- the newest bytes of each frame: of current, pending, committed, home
+-- the newest bytes of each frame: of current, pending, committed, home; and the page that they show at a place
 abbrev pub presentFrames : Lent → Contents
 presentFrames l = readFrame (meaningOf l) (l .card)
+
+abbrev pub presentPage : Lent → Address → Page
+presentPage l p = pageOf (presentFrames l) p
 
 -- what the committed generation shows, and the frames that migration passes over: pages whose flag is set there
 abbrev pub committedFrames : Lent → Contents
@@ -89,16 +70,9 @@ over l f = not (needed (meaningOf l .ranges) (meaningOf l .area) (committedFrame
 unfoldable pub passedOf : Lent → ℕ
 passedOf l = passedTo (over l) (meaningOf l)
 
--- the present count of a page
-abbrev pub presentCount : Lent → Address → ℕ
-presentCount l p = countAt (presentFrames l (p .pot)) (p .entry)
-
--- the frames that a call changes
-unfoldable pub writeChanges : Lent → ℕ → List ℕ → Address → List FrameBytes
-writeChanges l at new p = cond (eqb (length new) 0) [] (writeFrames (presentFrames l) p at new)
-
-unfoldable pub rescindChanges : Lent → Address → List FrameBytes
-rescindChanges l p = rescindFrames (presentFrames l) p
+-- the frames that a call on a page changes
+unfoldable pub callFrames : ℕ → PageCall → Lent → List FrameBytes
+callFrames o c l = editFrames (addressOf l) (edits o c) (presentFrames l)
 
 -- ---- questions
 
@@ -106,13 +80,11 @@ rescindChanges l p = rescindFrames (presentFrames l) p
 abbrev pub placed : Lookup → (Address → List Question) → List Question
 placed a rest = atPlace (ask 9 false ∷ []) a rest
 
--- document 01's questions, in its order
+-- document 01's questions, in its order; 12 to 14 once over all frames that a call changes: one that changes none passes
+-- them
 unfoldable pub asks : Call → Lent → List Question
 asks (start m) l = startAsks m (l .card)
-asks (key o) l = common l ++ placed (addressOf l o) (λ p. [])
-asks (read o n x) l = common l ++ placed (addressOf l o) (λ p. ask 10 (eqb (presentCount l p) n) ∷ ask 11 (eqb (length x) 512) ∷ [])
-asks (write o n at new) l = common l ++ placed (addressOf l o) (λ p. ask 10 (eqb (presentCount l p) n) ∷ ask 11 (leb (at + length new) 512) ∷ roomAsks (writeChanges l at new p) (meaningOf l))
-asks (rescind o n) l = common l ++ placed (addressOf l o) (λ p. ask 10 (eqb (presentCount l p) n) ∷ ask 15 (ltb n 4294967295) ∷ roomAsks (rescindChanges l p) (meaningOf l))
+asks (on o c) l = common l ++ placed (addressOf l o) (λ p. pageAsks c (presentPage l p) ++ roomAsks (callFrames o c l) (meaningOf l))
 asks snapshot l = common l ++ snapshotAsks (meaningOf l)
 asks pageOut l = common l ++ pageOutAsks (meaningOf l)
 asks advance l = common l ++ advanceAsks (meaningOf (past (passedOf l) l))
@@ -123,10 +95,7 @@ asks forecast l = common l
 -- the frame layer's call that it comes to; key, read, forecast and a write of length 0 change no frame
 unfoldable pub frameCall : Call → Lent → FrameCall
 frameCall (start m) l = frames.start m
-frameCall (key o) l = frames.change []
-frameCall (read o n x) l = frames.change []
-frameCall (write o n at new) l = frames.change (atPlace [] (addressOf l o) (writeChanges l at new))
-frameCall (rescind o n) l = frames.change (atPlace [] (addressOf l o) (rescindChanges l))
+frameCall (on o c) l = frames.change (callFrames o c l)
 frameCall snapshot l = frames.snapshot
 frameCall pageOut l = frames.pageOut
 frameCall advance l = frames.advance (passedOf l)
@@ -135,10 +104,7 @@ frameCall forecast l = frames.change []
 -- what it answers where it is done (without a place, 9 has refused it), and where it is refused
 unfoldable pub doneAnswer : Call → Lent → Answer
 doneAnswer (start m) l = done
-doneAnswer (key o) l = atPlace (refused 9) (addressOf l o) (λ p. counted (presentCount l p))
-doneAnswer (read o n x) l = atPlace (filled 9 x) (addressOf l o) (λ p. filled 0 (pageBytes (presentFrames l) p))
-doneAnswer (write o n at new) l = done
-doneAnswer (rescind o n) l = done
+doneAnswer (on o c) l = atPlace (pageRefusal c 9) (addressOf l o) (λ p. pageAnswer c (presentPage l p))
 doneAnswer snapshot l = done
 doneAnswer pageOut l = answered (frames.doneAnswer frames.pageOut l)
 doneAnswer advance l = answered (frames.doneAnswer (frames.advance (passedOf l)) l)
@@ -146,10 +112,7 @@ doneAnswer forecast l = foretold (sums.forecast (over l) (meaningOf l))
 
 unfoldable pub refusal : Call → ℕ → Answer
 refusal (start m) k = refused k
-refusal (key o) k = refused k
-refusal (read o n x) k = filled k x
-refusal (write o n at new) k = refused k
-refusal (rescind o n) k = refused k
+refusal (on o c) k = pageRefusal c k
 refusal snapshot k = refused k
 refusal pageOut k = refused k
 refusal advance k = refused k

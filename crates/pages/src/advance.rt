@@ -7,7 +7,8 @@ use frames::answer::Advanced;
 use frames::question;
 use record::store::Store;
 ghost use Rattle.frames.specs.Promise.{lent, reported};
-ghost use Rattle.pages.specs.Promise.{advance, answered, Kept};
+ghost use Rattle.pages.specs.Call.{advance};
+ghost use Rattle.pages.specs.Promise.{answered, Kept};
 
 pub fn advance(s: Store, card: &mut [u8], memory: &[u8]) -> Advanced
     ensures { λ r. ⌜ Kept advance (lent s (now (memory .entry)) (now (card .entry))) (answered (reported (r .answer))) (lent (r .store) (now (memory .entry)) (now (card .exit))) ⌝ }

@@ -6,7 +6,8 @@ use frames::forecast;
 use frames::question;
 use record::store::Store;
 ghost use Rattle.frames.specs.Promise.{lent};
-ghost use Rattle.pages.specs.Promise.{forecast, foretoldAs, Kept};
+ghost use Rattle.pages.specs.Call.{forecast};
+ghost use Rattle.pages.specs.Promise.{foretoldAs, Kept};
 
 pub fn forecast(s: Store, card: &[u8], memory: &[u8]) -> Forecast
     ensures { λ r. ⌜ Kept forecast (lent s (now (memory .entry)) (now (card .entry))) (foretoldAs r) (lent s (now (memory .entry)) (now (card .entry))) ⌝ }

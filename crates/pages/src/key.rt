@@ -6,11 +6,12 @@ use frames::load;
 use frames::question;
 use record::store::Store;
 ghost use Rattle.frames.specs.Promise.{lent};
-ghost use Rattle.pages.specs.Promise.{key, countedAs, Kept};
+ghost use Rattle.pages.specs.Call.{on, key};
+ghost use Rattle.pages.specs.Promise.{countedAs, Kept};
 
 // Card and memory are lent for one lifetime: the pot is a part of either.
 pub fn key<'a>(s: Store, card: &'a [u8], memory: &'a [u8], oid: u32) -> Count
-    ensures { λ r. ⌜ Kept (key oid) (lent s (now (memory .entry)) (now (card .entry))) (countedAs r) (lent s (now (memory .entry)) (now (card .entry))) ⌝ }
+    ensures { λ r. ⌜ Kept (on oid key) (lent s (now (memory .entry)) (now (card .entry))) (countedAs r) (lent s (now (memory .entry)) (now (card .entry))) ⌝ }
 {
     let no = question::common(s, memory.len(), card.len());
     if no != 0 {

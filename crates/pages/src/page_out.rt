@@ -3,7 +3,8 @@ use frames::answer::Advanced;
 use frames::page_out;
 use record::store::Store;
 ghost use Rattle.frames.specs.Promise.{lent, reported};
-ghost use Rattle.pages.specs.Promise.{pageOut, answered, Kept};
+ghost use Rattle.pages.specs.Call.{pageOut};
+ghost use Rattle.pages.specs.Promise.{answered, Kept};
 
 pub fn page_out(s: Store, card: &mut [u8], memory: &[u8]) -> Advanced
     ensures { λ r. ⌜ Kept pageOut (lent s (now (memory .entry)) (now (card .entry))) (answered (reported (r .answer))) (lent (r .store) (now (memory .entry)) (now (card .exit))) ⌝ }

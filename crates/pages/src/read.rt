@@ -5,7 +5,8 @@ use frames::load;
 use frames::question;
 use record::store::Store;
 ghost use Rattle.frames.specs.Promise.{lent};
-ghost use Rattle.pages.specs.Promise.{read, filled, Kept};
+ghost use Rattle.pages.specs.Call.{on, read, filled};
+ghost use Rattle.pages.specs.Promise.{Kept};
 
 // Card and memory are lent for one lifetime: pot and page are parts of either.
 pub fn read<'a>(
@@ -16,7 +17,7 @@ pub fn read<'a>(
     count: u32,
     buffer: &mut [u8],
 ) -> u32
-    ensures { λ r. ⌜ Kept (read oid count (now (buffer .entry))) (lent s (now (memory .entry)) (now (card .entry))) (filled r (now (buffer .exit)))
+    ensures { λ r. ⌜ Kept (on oid (read count (now (buffer .entry)))) (lent s (now (memory .entry)) (now (card .entry))) (filled r (now (buffer .exit)))
         (lent s (now (memory .entry)) (now (card .entry))) ⌝ }
 {
     let common = question::common(s, memory.len(), card.len());

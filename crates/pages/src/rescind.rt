@@ -14,8 +14,9 @@ ghost use Prim.Native.Nat.{_<_};
 ghost use lib.ListN.{length};
 ghost use Rattle.card.specs.Pot.{countAt};
 ghost use Rattle.frames.specs.Promise.{lent, numbered};
-ghost use Rattle.pages.specs.Page.{rescindPot};
-ghost use Rattle.pages.specs.Promise.{rescind, answered, Kept};
+ghost use Rattle.pages.specs.Call.{on, rescind};
+ghost use Rattle.pages.specs.Change.{rescindPot};
+ghost use Rattle.pages.specs.Promise.{answered, Kept};
 
 // In a pot: the count of entry i risen, its flag set.
 fn raise(pot: &mut [u8], i: usize)
@@ -29,7 +30,7 @@ fn raise(pot: &mut [u8], i: usize)
 }
 
 pub fn rescind(s: Store, card: &[u8], memory: &mut [u8], oid: u32, count: u32) -> Done
-    ensures { λ r. ⌜ Kept (rescind oid count) (lent s (now (memory .entry)) (now (card .entry))) (answered (numbered (r .answer)))
+    ensures { λ r. ⌜ Kept (on oid (rescind count)) (lent s (now (memory .entry)) (now (card .entry))) (answered (numbered (r .answer)))
         (lent (r .store) (now (memory .exit)) (now (card .entry))) ⌝ }
 {
     let common = question::common(s, memory.len(), card.len());

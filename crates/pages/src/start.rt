@@ -2,7 +2,8 @@
 use frames::answer::Done;
 use frames::start;
 ghost use Rattle.frames.specs.Promise.{lent, numbered};
-ghost use Rattle.pages.specs.Promise.{start, answered, Kept};
+ghost use Rattle.pages.specs.Call.{start};
+ghost use Rattle.pages.specs.Promise.{answered, Kept};
 ghost use Rattle.record.specs.Meaning.{zeroStore};
 
 pub fn start(card: &[u8], memory: &[u8]) -> Done

@@ -17,7 +17,8 @@ ghost use lib.ListN.{length};
 ghost use Rattle.card.specs.Bytes.{patch, zeros};
 ghost use Rattle.card.specs.Pot.{flagsAt, putFlags, clearZero};
 ghost use Rattle.frames.specs.Promise.{lent, numbered};
-ghost use Rattle.pages.specs.Promise.{write, answered, Kept};
+ghost use Rattle.pages.specs.Call.{on, write};
+ghost use Rattle.pages.specs.Promise.{answered, Kept};
 
 // Question 11: do so many bytes at an offset end at 512 or before?
 fn fits(at: usize, len: usize) -> bool
@@ -67,7 +68,7 @@ pub fn write(
     at: usize,
     new: &[u8],
 ) -> Done
-    ensures { λ r. ⌜ Kept (write oid count at (now (new .entry))) (lent s (now (memory .entry)) (now (card .entry))) (answered (numbered (r .answer)))
+    ensures { λ r. ⌜ Kept (on oid (write count at (now (new .entry)))) (lent s (now (memory .entry)) (now (card .entry))) (answered (numbered (r .answer)))
         (lent (r .store) (now (memory .exit)) (now (card .entry))) ⌝ }
 {
     let common = question::common(s, memory.len(), card.len());

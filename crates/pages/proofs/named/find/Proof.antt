@@ -12,7 +12,8 @@ use Rattle.card.specs.Question.{firstNo}
 use Rattle.card.specs.Range.{rangesOf}
 use Rattle.card.specs.declared.range.Lookup.{Lookup}
 use Rattle.card.specs.declared.range.Lookup.the-variants.{Located, Outside}
-use Rattle.pages.specs.Promise.{atPlace, placed, placeIn, NamedIs}
+use Rattle.pages.specs.Change.{atPlace}
+use Rattle.pages.specs.Promise.{placed, placeIn, NamedIs}
 use Rattle.pages.specs.declared.named.Named.{Named}
 use Rattle.record.specs.declared.store.Geometry.{Geometry}
 use Rattle.pages.proofs.named.find.Statement.{statement}

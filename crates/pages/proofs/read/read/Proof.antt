@@ -5,7 +5,6 @@ use borrow.Author.Tests.{eqb-true}
 use denote.Ref.{now}
 use lib.Dec.{eqb}
 use lib.ListN.{length}
-use mathlib.Core.List.{[]}
 use mathlib.Core.Path.{_≡_, sym, _∙_}
 use native.Mathlib.Omega.{arith}
 use Rattle.card.proofs.BytesLaws.{copied}
@@ -66,7 +65,7 @@ read-spec =
     (λ c. read-refused _ _ _ _ (place-stops _ _ _ (passed (c .before .before .before .before)) (c .before .before .find .ensures) (c .if2 .taken)))
     (λ c κs. pot-readable _ _ _ (found c))
     (λ c κs. search needs)
-    (λ c. read-refused _ _ _ _ (key-stops _ _ _ _ (found (c .before .before .before)) _ (c .before .before .load .ensures .0) 10 _ (c .before .check .ensures) (λ p. []) (c .if3 .taken)))
+    (λ c. read-refused _ _ _ _ (key-stops _ _ _ _ (found (c .before .before .before)) _ (c .before .before .load .ensures .0) 10 _ (c .before .check .ensures) _ (c .if3 .taken)))
     (λ c κs. search needs)
     (λ c κs. search needs)
     (λ c. search needs)

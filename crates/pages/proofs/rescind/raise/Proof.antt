@@ -6,7 +6,7 @@ use mathlib.Core.List.{List}
 use mathlib.Core.Path.{_≡_}
 use native.Mathlib.Numerals.{add-one}
 use Rattle.card.specs.Pot.{countAt, flagsAt, putCount, putFlags, setZero}
-use Rattle.pages.specs.Page.{rescindPot}
+use Rattle.pages.specs.Change.{rescindPot}
 use Rattle.pages.proofs.rescind.raise.Statement.{statement}
 use Rattle.pages.proofs.rescind.raise.Tie as tie
 

@@ -12,7 +12,7 @@ use Rattle.card.specs.Question.{firstNo}
 use Rattle.frames.specs.Promise.{Lent, lent, common}
 use Rattle.pages.proofs.CallLaws.{rescind-refused, rescind-few, rescind-done}
 use Rattle.pages.proofs.NamedLaws.{searchable, Found, pot-readable, small, pot-changing, common-stops, place-stops, Keyed, key-stops, key-passes}
-use Rattle.pages.specs.Page.{rescindPot}
+use Rattle.pages.specs.Change.{rescindPot}
 use Rattle.pages.proofs.rescind.rescind.Statement.{statement}
 use Rattle.pages.proofs.rescind.rescind.Tie as tie
 
