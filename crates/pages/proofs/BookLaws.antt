@@ -4,10 +4,10 @@ use Prim.Native.Nat.{ℕ, suc}
 use borrow.Author.Tests.{eqb-true, eq-eqb, ne-eqb}
 use lib.Dec.{eqb}
 use lib.ListN.{length}
-use mathlib.Core.Bool.{true, false}
+use mathlib.Core.Bool.{Bool, true, false, cond}
 use mathlib.Core.List.{List, [], _∷_}
 use mathlib.Core.Logic.{_≢_}
-use mathlib.Core.Path.{_≡_, refl, sym}
+use mathlib.Core.Path.{_≡_, refl, ap, sym}
 use Rattle.card.proofs.BytesLaws.{patch-none, none-long}
 use Rattle.card.proofs.Test.{byTest}
 use Rattle.card.specs.Bytes.{patch, zeros}
@@ -36,7 +36,7 @@ refused-page (rescind k) n = (λ z. refl, refl)
 pub told-refused : (c : Call) (n : ℕ) (b : Book) → n ≢ 0 → told (called c (refusal c n)) b ≡ b
 unfolding told refusal isDone isHeader isFlush
 told-refused (start m) n b z = refl
-told-refused (on o c) n b z = rw (refused-page c n .0 z)
+told-refused (on o c) n b z = ap (λ (t : Bool). cond t (presentTo (applied (edits o c) (b .present)) b) b) (refused-page c n .0 z)
 told-refused snapshot n b z = refl
 told-refused pageOut n b z = refl
 told-refused advance n b z = refl

@@ -13,6 +13,7 @@ use Rattle.card.specs.Bytes.{patch}
 use Rattle.card.specs.Pot.{countAt, flagsAt, putFlags, isZero, clearZero}
 use Rattle.card.specs.Question.{Question, firstNo}
 use Rattle.card.specs.declared.range.Address.{Address}
+use Rattle.card.specs.declared.range.Lookup.the-variants.{Located}
 use Rattle.frames.proofs.KeepLaws.{numbered-no, numbered-done}
 use Rattle.frames.proofs.ReadyLaws.{common-passed, common-refused, ready}
 use Rattle.frames.specs.Parts.{framesWith, ChangeKept, Foretells}
@@ -72,20 +73,41 @@ unfolding foretoldAs doneAnswer
 forecast-done l n h moves e f = rw (f (over l) (l .memory) e)
     (keeps-same forecast l (unfold asks in h) (unfold frameCall in refl) (ready (l .store) (length (l .memory)) (length (l .card)) h .together))
 
--- ---- a call on a page: 12 to 14 over its frames are asked last
+-- ---- the frames that a call on a page changes, in document 01's words
 
+module _ (l : Lent) (o : ℕ) where
+  -- key, read and a write of length 0: none
+  pub key-frames : callFrames o key l ≡ []
+  unfolding callFrames edits editFrames
+  key-frames = refl
+
+  pub read-frames : (count : ℕ) (x : List ℕ) → callFrames o (read count x) l ≡ []
+  unfolding callFrames edits editFrames
+  read-frames count x = refl
+
+  pub nothing-frames : (count at : ℕ) (new : List ℕ) → length new ≡ 0 → callFrames o (write count at new) l ≡ []
+  unfolding callFrames edits editFrames
+  nothing-frames count at new e = rw (eq-eqb (length new) 0 e)
+
+  module _ (p : Address) (at-p : addressOf l o ≡ Located p) where
+    -- any other write: the page, then, if the flag was set, the pot, equal bytes or not
+    pub write-frames : (count at : ℕ) (new : List ℕ) → length new ≢ 0 → callFrames o (write count at new) l ≡ writeFrames (presentFrames l) p at new
+    unfolding callFrames edits changedFrames
+    write-frames count at new some = rw (ne-eqb (length new) 0 some) (frames-one (addressOf l) o p at-p (put at new) (presentFrames l))
+
+    -- a rescind: the pot alone
+    pub rescind-frames : (count : ℕ) → callFrames o (rescind count) l ≡ record { frame = p .pot; bytes = rescindPot (presentFrames l (p .pot)) (p .entry) } ∷ []
+    unfolding callFrames edits changedFrames
+    rescind-frames count = frames-one (addressOf l) o p at-p empty (presentFrames l)
+
+-- 12 to 14 over them are asked last
 abbrev pub restAsks : ℕ → PageCall → Lent → List Question
 restAsks o c l = roomAsks (callFrames o c l) (meaningOf l)
 
--- one that changes no frame
-module _ (l : Lent) (o : ℕ) (c : PageCall) (none : edits o c ≡ []) where
-  nothing : callFrames o c l ≡ []
-  unfolding callFrames editFrames
-  nothing = rw none
-
-  pub looked : {p : Address} → Found l o p → firstNo (asks (on o c) l) ≡ firstNo (restAsks o c l) → Kept (on o c) l (doneAnswer (on o c) l) l
-  unfolding frameCall
-  looked f e = keeps-same (on o c) l (e ∙ rw nothing (change-none (meaningOf l) .0)) (ap frames.change nothing) (found-together l o _ f)
+-- a call that changes none
+looked : (l : Lent) (o : ℕ) (c : PageCall) → callFrames o c l ≡ [] → {p : Address} → Found l o p → firstNo (asks (on o c) l) ≡ firstNo (restAsks o c l) → Kept (on o c) l (doneAnswer (on o c) l) l
+unfolding frameCall
+looked l o c none f e = keeps-same (on o c) l (e ∙ rw none (change-none (meaningOf l) .0)) (ap frames.change none) (found-together l o _ f)
 
 -- ---- key
 
@@ -95,10 +117,10 @@ module _ (l : Lent) (o : ℕ) where
   key-refused {n} q = keeps-no (on o key) l n (q .number-is) (q .some)
 
   pub key-done : (p : Address) → Found l o p → {pot : List ℕ} → pot ≡ presentFrames l (p .pot) → {count : ℕ} → count ≡ countAt pot (p .entry) → Kept (on o key) l (countedAs (Present count)) l
-  unfolding asks pageAsks doneAnswer pageAnswer countedAs atPlace edits pageOf
+  unfolding asks pageAsks doneAnswer pageAnswer countedAs atPlace pageOf
   key-done p f pot-is {count} count-is =
       let answer : doneAnswer (on o key) l ≡ counted count = rw (f .place-is) (ap counted (sym (count-is ∙ ap (λ (x : List ℕ). countAt x (p .entry)) pot-is))) in
-      rw (← answer) (looked l o key refl f (rest-asked l o (λ q. restAsks o key l) p f))
+      rw (← answer) (looked l o key (key-frames l o) f (rest-asked l o (λ q. restAsks o key l) p f))
 
 -- ---- read
 
@@ -108,10 +130,10 @@ module _ (l : Lent) (o count : ℕ) (x : List ℕ) where
   read-refused {n} q = keeps-no (on o (read count x)) l n (q .number-is) (q .some)
 
   pub read-done : (p : Address) (pot : List ℕ) → Keyed l o count p pot (eqb (length x) 512) → {y : List ℕ} → y ≡ pageBytes (presentFrames l) p → Kept (on o (read count x)) l (filled 0 y) l
-  unfolding asks pageAsks doneAnswer pageAnswer atPlace edits pageOf
+  unfolding asks pageAsks doneAnswer pageAnswer atPlace pageOf
   read-done p pot k {y} e =
       let answer : doneAnswer (on o (read count x)) l ≡ filled 0 y = rw (k .found .place-is) (ap (filled 0) (sym e)) in
-      rw (← answer) (looked l o (read count x) refl (k .found) (keyed-asks l o count p pot 11 (eqb (length x) 512) (λ q. restAsks o (read count x) l) k))
+      rw (← answer) (looked l o (read count x) (read-frames l o count x) (k .found) (keyed-asks l o count p pot 11 (eqb (length x) 512) (λ q. restAsks o (read count x) l) k))
 
 -- ---- calls that answer by number, in a record `d` with the store that they leave
 
@@ -148,20 +170,16 @@ module _ (l : Lent) (o count : ℕ) where
     pub rescind-few : countAt pot (p .entry) < 4294967295
     rescind-few = omega (arith, k .count-is, ltb-true count 4294967295 (k .own-is))
 
-    rescind-frames : callFrames o (rescind count) l ≡ changedFrames empty (presentFrames l) p
-    unfolding callFrames edits
-    rescind-frames = frames-one (addressOf l) o p (k .found .place-is) empty (presentFrames l)
-
     pub rescind-done : {f : ℕ} → f ≡ p .pot → (x : List ℕ) → length x ≡ 512 → x ≡ rescindPot pot (p .entry) → {n : ℕ} {t : Store} {after : List ℕ}
         → ChangeKept (l .store) (l .memory) (f ∷ []) x n t after → {d : Done} → (d .answer ≡ n) × (d .store ≡ t)
         → Kept (on o (rescind count)) l (answered (numbered (d .answer))) (lent (d .store) after (l .card))
     unfolding asks pageAsks frameCall refusal pageRefusal pageOf
     rescind-done {f} name x long x-is c is =
         change-kept (on o (rescind count)) l (callFrames o (rescind count) l) refl (k .found .passed) (keyed-asks l o count p pot 15 _ (λ q. restAsks o (rescind count) l) k) ends (λ q. refl)
-        (f ∷ []) x (one-frame f x long ∙ pot-named ∙ sym rescind-frames) c is
+        (f ∷ []) x (one-frame f x long ∙ pot-named ∙ sym (rescind-frames l o p (k .found .place-is) count)) c is
       where
-        pot-named : record { frame = f; bytes = x } ∷ [] ≡ changedFrames empty (presentFrames l) p
-        pot-named = unfold changedFrames in (rw (name, x-is, k .pot-is) refl)
+        pot-named : _≡_ {A = List FrameBytes} (record { frame = f; bytes = x } ∷ []) (record { frame = p .pot; bytes = rescindPot (presentFrames l (p .pot)) (p .entry) } ∷ [])
+        pot-named = rw (name, x-is, k .pot-is) refl
 
         ends : doneAnswer (on o (rescind count)) l ≡ done
         ends = unfold doneAnswer pageAnswer atPlace in (rw (k .found .place-is))
@@ -186,13 +204,7 @@ module _ (l : Lent) (o count at : ℕ) (new : List ℕ) where
     -- no bytes: no frame changes
     pub write-nothing : length new ≡ 0 → {n : ℕ} → n ≡ 0 → {d : Done} → (d .answer ≡ n) × (d .store ≡ l .store)
         → Kept (on o (write count at new)) l (answered (numbered (d .answer))) (lent (d .store) (l .memory) (l .card))
-    write-nothing e z is =
-        let none : edits o (write count at new) ≡ [] = unfold edits in (rw (eq-eqb (length new) 0 e)) in
-        rw (is .0, is .1, z, answered-done, ← write-ends) (looked l o (write count at new) none (k .found) write-room)
-
-    write-frames : length new ≢ 0 → callFrames o (write count at new) l ≡ writeFrames (presentFrames l) p at new
-    unfolding callFrames edits changedFrames
-    write-frames some = rw (ne-eqb (length new) 0 some) (frames-one (addressOf l) o p (k .found .place-is) (put at new) (presentFrames l))
+    write-nothing e z is = rw (is .0, is .1, z, answered-done, ← write-ends) (looked l o (write count at new) (nothing-frames l o count at new e) (k .found) write-room)
 
     module _ (some : length new ≢ 0) (x : List ℕ) (x-long : length x ≡ 512) (x-is : x ≡ patch (pageBytes (presentFrames l) p) at new) {n : ℕ} {t : Store} {after : List ℕ}
         {d : Done} (d-is : (d .answer ≡ n) × (d .store ≡ t)) where
@@ -201,7 +213,7 @@ module _ (l : Lent) (o count at : ℕ) (new : List ℕ) where
       unfolding frameCall refusal pageRefusal
       write-kept names bytes are c =
           change-kept (on o (write count at new)) l (callFrames o (write count at new) l) refl (k .found .passed) write-room write-ends (λ q. refl)
-          names bytes (are ∙ sym (write-frames some)) c d-is
+          names bytes (are ∙ sym (write-frames l o p (k .found .place-is) count at new some)) c d-is
 
       -- the flag is clear: the page alone
       pub write-page : isZero (flagsAt pot (p .entry)) ≡ false → {f : ℕ} → f ≡ p .page → ChangeKept (l .store) (l .memory) (f ∷ []) x n t after

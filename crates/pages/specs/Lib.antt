@@ -1,4 +1,4 @@
--- The promise of the calls, the book, the two demands, and what a forecast is worth.
+-- Pages and changes of them, the calls and their promise, the book, the two demands, and what a forecast is worth.
 pub mod Page
 pub mod Needed
 pub mod Change

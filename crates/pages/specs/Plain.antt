@@ -1,12 +1,15 @@
--- The plain machine of demand 2: tables of pages and counts, and a ledger of numbers. After start it sees no card, no
--- memory and no record. With the calls it shares what a change, a snapshot, a page-out and each kind of advance make
--- of a generation (recovery's Step, here without bytes), the place of an OID (question 9), which changes a call makes
--- (Call: edits) and the frames behind them (Change: editFrames), the form of a refusal, the blocks of directory and
--- trailer, which frames of a table are empty pages (Needed), and how many entries count as passed over (Sums:
--- passedTo); with the book, what a change makes of a page (Change: changed). Its answers, its other questions, 10, 11
--- and 15 among them, the frames that count for k, the flags, when a flush is due, which kind is next and whether one is
--- (Sums: remainingWrites), the forecast (Sums: commitSum), the bytes of pages, and by which table pages are empty are
--- its own.
+-- The plain machine of demand 2: tables of pages and counts, and a ledger of numbers. It begins with what a start
+-- shows; after that it sees no card, no memory and no record.
+--
+-- It shares with the calls: the place of an OID (question 9); which changes a call makes (Call: edits) and the frames
+-- behind them (Change: editFrames); the form of a refusal; what a change, a snapshot, a page-out and each kind of
+-- advance make of a generation (recovery's Step, here without bytes); the blocks of directory and trailer, and how a
+-- header is laid out; which frames of a table are empty pages (Needed); how many entries count as passed over (Sums:
+-- passedTo). With the book it shares what a change makes of a page (Change: changed).
+--
+-- Its own are: its other questions, 10, 11 and 15 in its own words (rowAsks), and k by the frames that a change touches;
+-- its answers; the flags; when a flush is due; which kind is next and whether one is (Sums: remainingWrites); the
+-- forecast (Sums: commitSum); the bytes of pages; by which table pages are empty.
 -- Assumes nothing.
 use Prim.Native.Nat.{ℕ, _+_}
 use lib.Dec.{leb, ltb, eqb}
