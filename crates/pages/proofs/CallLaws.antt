@@ -22,10 +22,10 @@ use Rattle.frames.specs.declared.answer.Done.{Done}
 use Rattle.pages.proofs.AnswerLaws.{change-none, keeps-no, keeps-same, lifted}
 use Rattle.pages.proofs.EditLaws.{frames-one}
 use Rattle.pages.proofs.NamedLaws.{Found, found-together, one-frame, two-frames, Stops, rest-asked, presentCount, keyAsks, Keyed, keyed-asks}
-use Rattle.pages.specs.Call.{PageCall, key, read, write, rescind, Call, start, on, snapshot, pageOut, advance, forecast, refused, done, counted, filled, pageAsks, edits, pageAnswer, pageRefusal}
+use Rattle.pages.specs.Call.{PageCall, key, read, write, rescind, start, on, snapshot, pageOut, advance, forecast, refused, done, counted, filled, pageAsks, edits, pageAnswer, pageRefusal}
 use Rattle.pages.specs.Change.{put, empty, writeFrames, rescindPot, changedFrames, atPlace, editFrames}
 use Rattle.pages.specs.Page.{pageBytes, pageOf}
-use Rattle.pages.specs.Promise.{answered, countedAs, foretoldAs, addressOf, presentFrames, callFrames, asks, frameCall, doneAnswer, refusal, Kept, over, passedOf}
+use Rattle.pages.specs.Promise.{answered, countedAs, foretoldAs, addressOf, presentFrames, presentPage, callFrames, asks, frameCall, doneAnswer, refusal, Kept, over, passedOf}
 use Rattle.pages.specs.declared.answer.Count.the-variants.{Present, Refused}
 use Rattle.pages.specs.declared.answer.Forecast.the-variants as Forecasts
 use Rattle.record.specs.declared.store.Store.{Store}
@@ -135,35 +135,45 @@ module _ (l : Lent) (o count : ℕ) (x : List ℕ) where
       let answer : doneAnswer (on o (read count x)) l ≡ filled 0 y = rw (k .found .place-is) (ap (filled 0) (sym e)) in
       rw (← answer) (looked l o (read count x) (read-frames l o count x) (k .found) (keyed-asks l o count p pot 11 (eqb (length x) 512) (λ q. restAsks o (read count x) l) k))
 
--- ---- calls that answer by number, in a record `d` with the store that they leave
-
-refused-by : (c : Call) (l : Lent) → ((k : ℕ) → refusal c k ≡ refused k) → frames.handedBack (frameCall c l) l ≡ l → {n : ℕ} → firstNo (asks c l) ≡ n → n ≢ 0
-    → {d : Done} → (d .answer ≡ n) × (d .store ≡ l .store) → Kept c l (answered (numbered (d .answer))) (lent (d .store) (l .memory) (l .card))
-unfolding answered
-refused-by c l same back {n} e z is =
-    rw (is .0, is .1, numbered-no n z, ← same n) (subst (λ (l′ : Lent). Kept c l (refusal c n) l′) back (keeps-no c l n e z))
+-- ---- calls on a page that answer by number, in a record `d` with the store that they leave
 
 answered-done : answered (numbered 0) ≡ done
 unfolding answered
 answered-done = rw numbered-done
 
--- a change of frames, with 12 to 14 of these asked last
-change-kept : (c : Call) (l : Lent) (ws : List FrameBytes) → frameCall c l ≡ frames.change ws → firstNo (common l) ≡ 0 → firstNo (asks c l) ≡ firstNo (roomAsks ws (meaningOf l))
-    → doneAnswer c l ≡ done → ((k : ℕ) → refusal c k ≡ refused k) → (names bytes : List ℕ) → framesWith names bytes ≡ ws → {n : ℕ} {t : Store} {after : List ℕ}
-    → ChangeKept (l .store) (l .memory) names bytes n t after → {d : Done} → (d .answer ≡ n) × (d .store ≡ t) → Kept c l (answered (numbered (d .answer))) (lent (d .store) after (l .card))
-unfolding frames.asks frames.doneAnswer answered
-change-kept c l ws call passed asked ends same names bytes are {n} {t} {after} k is =
-    rw (is .0, is .1)
-    (lifted c l (lent t after (l .card)) (numbered n) (rw (call, ← are) (k (l .card) passed))
-    (asked ∙ (rw call (sym (common-passed (l .store) (length (l .memory)) (length (l .card)) (roomAsks ws (meaningOf l)) passed)))) (ends ∙ rw call refl) same)
+module _ (l : Lent) (o : ℕ) (c : PageCall) (numbers : (n : ℕ) → pageRefusal c n ≡ refused n) where
+  -- refused: all is as it was
+  on-refused : {n : ℕ} → Stops l o (λ p. pageAsks c (presentPage l p) ++ restAsks o c l) n → {d : Done} → (d .answer ≡ n) × (d .store ≡ l .store)
+      → Kept (on o c) l (answered (numbered (d .answer))) (lent (d .store) (l .memory) (l .card))
+  unfolding asks frameCall refusal answered
+  on-refused {n} q is = rw (is .0, is .1, numbered-no n (q .some), ← numbers n) (keeps-no (on o c) l n (q .number-is) (q .some))
+
+  module _ (p : Address) (f : Found l o p) (ends : pageAnswer c (presentPage l p) ≡ done) (asked : firstNo (asks (on o c) l) ≡ firstNo (restAsks o c l)) where
+    ends-done : doneAnswer (on o c) l ≡ done
+    unfolding doneAnswer atPlace
+    ends-done = rw (f .place-is) ends
+
+    -- done, and no frame changes
+    on-nothing : callFrames o c l ≡ [] → {n : ℕ} → n ≡ 0 → {d : Done} → (d .answer ≡ n) × (d .store ≡ l .store)
+        → Kept (on o c) l (answered (numbered (d .answer))) (lent (d .store) (l .memory) (l .card))
+    on-nothing none z is = rw (is .0, is .1, z, answered-done, ← ends-done) (looked l o c none f asked)
+
+    -- its frames go to the frame layer, which asks 12 to 14
+    on-changed : (names bytes : List ℕ) → framesWith names bytes ≡ callFrames o c l → {n : ℕ} {t : Store} {after : List ℕ} → ChangeKept (l .store) (l .memory) names bytes n t after
+        → {d : Done} → (d .answer ≡ n) × (d .store ≡ t) → Kept (on o c) l (answered (numbered (d .answer))) (lent (d .store) after (l .card))
+    unfolding frameCall refusal frames.asks frames.doneAnswer answered
+    on-changed names bytes are {n} {t} {after} k is =
+        rw (is .0, is .1)
+        (lifted (on o c) l (lent t after (l .card)) (numbered n) (rw (← are) (k (l .card) (f .passed)))
+        (asked ∙ sym (common-passed (l .store) (length (l .memory)) (length (l .card)) (restAsks o c l) (f .passed))) ends-done numbers)
 
 -- ---- rescind
 
 module _ (l : Lent) (o count : ℕ) where
   pub rescind-refused : {n : ℕ} → Stops l o (λ p. keyAsks (presentCount l p) count 15 (ltb count 4294967295) ++ restAsks o (rescind count) l) n
       → {d : Done} → (d .answer ≡ n) × (d .store ≡ l .store) → Kept (on o (rescind count)) l (answered (numbered (d .answer))) (lent (d .store) (l .memory) (l .card))
-  unfolding asks pageAsks frameCall refusal pageRefusal pageOf
-  rescind-refused q is = refused-by (on o (rescind count)) l (λ k. refl) refl (q .number-is) (q .some) is
+  unfolding pageAsks pageRefusal pageOf
+  rescind-refused q is = on-refused l o (rescind count) (λ n. refl) q is
 
   module _ (p : Address) (pot : List ℕ) (k : Keyed l o count p pot (ltb count 4294967295)) where
     -- the count can rise
@@ -173,47 +183,40 @@ module _ (l : Lent) (o count : ℕ) where
     pub rescind-done : {f : ℕ} → f ≡ p .pot → (x : List ℕ) → length x ≡ 512 → x ≡ rescindPot pot (p .entry) → {n : ℕ} {t : Store} {after : List ℕ}
         → ChangeKept (l .store) (l .memory) (f ∷ []) x n t after → {d : Done} → (d .answer ≡ n) × (d .store ≡ t)
         → Kept (on o (rescind count)) l (answered (numbered (d .answer))) (lent (d .store) after (l .card))
-    unfolding asks pageAsks frameCall refusal pageRefusal pageOf
+    unfolding asks pageAsks pageAnswer pageRefusal pageOf
     rescind-done {f} name x long x-is c is =
-        change-kept (on o (rescind count)) l (callFrames o (rescind count) l) refl (k .found .passed) (keyed-asks l o count p pot 15 _ (λ q. restAsks o (rescind count) l) k) ends (λ q. refl)
+        on-changed l o (rescind count) (λ n. refl) p (k .found) refl (keyed-asks l o count p pot 15 _ (λ q. restAsks o (rescind count) l) k)
         (f ∷ []) x (one-frame f x long ∙ pot-named ∙ sym (rescind-frames l o p (k .found .place-is) count)) c is
       where
         pot-named : _≡_ {A = List FrameBytes} (record { frame = f; bytes = x } ∷ []) (record { frame = p .pot; bytes = rescindPot (presentFrames l (p .pot)) (p .entry) } ∷ [])
         pot-named = rw (name, x-is, k .pot-is) refl
-
-        ends : doneAnswer (on o (rescind count)) l ≡ done
-        ends = unfold doneAnswer pageAnswer atPlace in (rw (k .found .place-is))
 
 -- ---- write
 
 module _ (l : Lent) (o count at : ℕ) (new : List ℕ) where
   pub write-refused : {n : ℕ} → Stops l o (λ p. keyAsks (presentCount l p) count 11 (leb (at + length new) 512) ++ restAsks o (write count at new) l) n
       → {d : Done} → (d .answer ≡ n) × (d .store ≡ l .store) → Kept (on o (write count at new)) l (answered (numbered (d .answer))) (lent (d .store) (l .memory) (l .card))
-  unfolding asks pageAsks frameCall refusal pageRefusal pageOf
-  write-refused q is = refused-by (on o (write count at new)) l (λ k. refl) refl (q .number-is) (q .some) is
+  unfolding pageAsks pageRefusal pageOf
+  write-refused q is = on-refused l o (write count at new) (λ n. refl) q is
 
   module _ (p : Address) (pot : List ℕ) (k : Keyed l o count p pot (leb (at + length new) 512)) where
     write-room : firstNo (asks (on o (write count at new)) l) ≡ firstNo (restAsks o (write count at new) l)
     unfolding asks pageAsks pageOf
     write-room = keyed-asks l o count p pot 11 _ (λ q. restAsks o (write count at new) l) k
 
-    write-ends : doneAnswer (on o (write count at new)) l ≡ done
-    unfolding doneAnswer pageAnswer atPlace
-    write-ends = rw (k .found .place-is)
-
     -- no bytes: no frame changes
     pub write-nothing : length new ≡ 0 → {n : ℕ} → n ≡ 0 → {d : Done} → (d .answer ≡ n) × (d .store ≡ l .store)
         → Kept (on o (write count at new)) l (answered (numbered (d .answer))) (lent (d .store) (l .memory) (l .card))
-    write-nothing e z is = rw (is .0, is .1, z, answered-done, ← write-ends) (looked l o (write count at new) (nothing-frames l o count at new e) (k .found) write-room)
+    unfolding pageAnswer pageRefusal
+    write-nothing e z is = on-nothing l o (write count at new) (λ n. refl) p (k .found) refl write-room (nothing-frames l o count at new e) z is
 
     module _ (some : length new ≢ 0) (x : List ℕ) (x-long : length x ≡ 512) (x-is : x ≡ patch (pageBytes (presentFrames l) p) at new) {n : ℕ} {t : Store} {after : List ℕ}
         {d : Done} (d-is : (d .answer ≡ n) × (d .store ≡ t)) where
       write-kept : (names bytes : List ℕ) → framesWith names bytes ≡ writeFrames (presentFrames l) p at new → ChangeKept (l .store) (l .memory) names bytes n t after
           → Kept (on o (write count at new)) l (answered (numbered (d .answer))) (lent (d .store) after (l .card))
-      unfolding frameCall refusal pageRefusal
+      unfolding pageAnswer pageRefusal
       write-kept names bytes are c =
-          change-kept (on o (write count at new)) l (callFrames o (write count at new) l) refl (k .found .passed) write-room write-ends (λ q. refl)
-          names bytes (are ∙ sym (write-frames l o p (k .found .place-is) count at new some)) c d-is
+          on-changed l o (write count at new) (λ n. refl) p (k .found) refl write-room names bytes (are ∙ sym (write-frames l o p (k .found .place-is) count at new some)) c d-is
 
       -- the flag is clear: the page alone
       pub write-page : isZero (flagsAt pot (p .entry)) ≡ false → {f : ℕ} → f ≡ p .page → ChangeKept (l .store) (l .memory) (f ∷ []) x n t after
