@@ -2,13 +2,17 @@
 -- that fields told in each other's place would be so on both sides; here they are refused.
 -- Assumes nothing.
 use Prim.Native.Nat.{ℕ}
+use mathlib.Core.List.{List}
 use mathlib.Core.Path.{_≡_, refl}
 use Rattle.frames.specs.declared.answer.Advance.the-variants.{P, D, T, M, H, F, Refused}
-use Rattle.lane.specs.Linked.{present, foretelling, report, presentOf, foretoldOf, reportOf, kindNumber, numberOf, countOf, advancesOf, kindOf, blockOf, pageReply, replyOf}
+use Rattle.lane.specs.Demands.{refusalOf}
+use Rattle.lane.specs.Linked.{filling, present, foretelling, report, presentOf, foretoldOf, reportOf, kindNumber, numberOf, countOf, advancesOf, bytesOf, kindOf, blockOf, pageReply, replyOf}
 use Rattle.lane.specs.declared.answer.Foretold.{Foretold}
 use Rattle.lane.specs.declared.answer.Present.{Present}
 use Rattle.lane.specs.declared.answer.Report.{Report}
-use Rattle.pages.specs.Call.{key, on, pageOut, advance, forecast, refused, counted, wrote, foretold}
+use Rattle.pages.specs.Call.{PageCall, key, read, write, rescind, Call, start, on, snapshot, pageOut, advance, forecast, refused, counted, filled, wrote, foretold, pageAnswer, pageRefusal}
+use Rattle.pages.specs.Page.{Page}
+use Rattle.pages.specs.Promise.{refusal}
 use Rattle.pages.specs.declared.answer.Count.the-variants as Counts
 use Rattle.pages.specs.declared.answer.Forecast.the-variants as Forecasts
 use Rattle.recovery.specs.Step.{page, header, flush}
@@ -44,3 +48,35 @@ pub replies-told : (replyOf pageOut (wrote page 9) ≡ report 1 0 9) × (replyOf
     × (replyOf forecast (foretold 8) ≡ foretelling 0 8) × (replyOf forecast (refused 3) ≡ foretelling 3 0)
 unfolding replyOf pageReply kindOf kindNumber numberOf countOf advancesOf blockOf
 replies-told = (refl, refl, refl, refl, refl, refl, refl, refl)
+
+-- ---- of every call
+
+-- refused, it replies the number of the first "no"
+page-refused : (c : PageCall) (n : ℕ) → refusalOf (pageReply c (pageRefusal c n)) ≡ n
+unfolding pageReply pageRefusal numberOf
+page-refused key n = refl
+page-refused (read k x) n = refl
+page-refused (write k at new) n = refl
+page-refused (rescind k) n = refl
+
+pub refused-number : (c : Call) (n : ℕ) → refusalOf (replyOf c (refusal c n)) ≡ n
+unfolding replyOf refusal numberOf
+refused-number (start m) n = refl
+refused-number (on o c) n = page-refused c n
+refused-number snapshot n = refl
+refused-number pageOut n = refl
+refused-number advance n = refl
+refused-number forecast n = refl
+
+-- done, a call on a page replies 0
+pub page-done : (c : PageCall) (x : Page) → refusalOf (pageReply c (pageAnswer c x)) ≡ 0
+unfolding pageReply pageAnswer numberOf
+page-done key x = refl
+page-done (read k y) x = refl
+page-done (write k at new) x = refl
+page-done (rescind k) x = refl
+
+-- a read that is refused leaves its buffer, one that is done has its bytes there
+pub read-replies : (o k n : ℕ) (x y : List ℕ) → (replyOf (on o (read k x)) (refusal (on o (read k x)) n) ≡ filling n x) × (replyOf (on o (read k x)) (filled 0 y) ≡ filling 0 y)
+unfolding replyOf pageReply refusal pageRefusal numberOf bytesOf
+read-replies o k n x y = (refl, refl)

@@ -79,7 +79,7 @@ asks-numbered (rescind n) x = (omega arith, (omega arith, tt))
 pub record Passed (o : ℕ) (c : PageCall) (l : Lent) : Type 0 where
   pub place : Address
   pub place-is : addressOf l o ≡ Located place
-  pub page : firstNo (pageAsks c (presentPage l place)) ≡ 0
+  pub page-passes : firstNo (pageAsks c (presentPage l place)) ≡ 0
   pub room : firstNo (roomAsks (callFrames o c l) (meaningOf l)) ≡ 0
 
 pub on-passed : (o : ℕ) (c : PageCall) (l : Lent) → firstNo (ownAsks (on o c) l) ≡ 0 → Passed o c l
@@ -87,7 +87,7 @@ unfolding ownAsks asks heldAsks
 on-passed o c l e =
     let f = found-place (addressOf l o) _ e in
     let q = groups-passed (pageAsks c (presentPage l (f .0))) (roomAsks (callFrames o c l) (meaningOf l)) (asks-numbered c (presentPage l (f .0))) (f .2) in
-    record { place = f .0; place-is = f .1; page = q .0; room = q .1 }
+    record { place = f .0; place-is = f .1; page-passes = q .0; room = q .1 }
 
 -- ---- the frame call that a call comes to
 

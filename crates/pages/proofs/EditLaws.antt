@@ -21,7 +21,7 @@ use Rattle.card.specs.declared.range.Address.{Address}
 use Rattle.card.specs.declared.range.Lookup.{Lookup}
 use Rattle.card.specs.declared.range.Lookup.the-variants.{Located}
 use Rattle.pages.proofs.BlankLaws.{blankFrames}
-use Rattle.pages.proofs.NeededLaws.{page-at, at-tells, pot-needed, page-needed, change-brings}
+use Rattle.pages.proofs.NeededLaws.{page-at, oid-needed, change-brings}
 use Rattle.pages.proofs.RowLaws.{CanMake, after, own-row, other-rows}
 use Rattle.pages.specs.Change.{Change, put, empty, Edit, edit, update, changed, applied, writeFrames, rescindPot, changedFrames, atPlace, editFrames}
 use Rattle.pages.specs.Needed.{needed}
@@ -116,10 +116,8 @@ module _ (rs : List Range) (blocks area : ℕ) (full : blocks ≡ 1 + area + all
   both-alike : (u v : Contents) → Alike u v → (o : ℕ) (p : Address) → placeOn rs area o ≡ Located p → (u (p .pot) ≡ v (p .pot)) × (flagged v p ≡ false → u (p .page) ≡ v (p .page))
   both-alike u v h o p at-p =
       let inside = in-p o p at-p in
-      let at-page = page-at rs (1 + area) o p at-p in (
-        h (p .pot) (omega (arith, inside)) (omega (arith, inside)) (pot-needed rs area blocks full v (p .pot) (at-tells rs (1 + area) (p .page) p at-page .pot-is)),
-        λ z. h (p .page) (omega (arith, inside)) (omega (arith, inside)) (page-needed rs area blocks full v (p .page) p at-page ∙ ap not z),
-      )
+      let needs = oid-needed rs area blocks full v o p at-p in
+      (h (p .pot) (omega (arith, inside)) (omega (arith, inside)) (needs .1), λ z. h (p .page) (omega (arith, inside)) (omega (arith, inside)) (needs .0 ∙ ap not z))
 
   bytes-alike : (u v : Contents) (p : Address) → (u (p .pot) ≡ v (p .pot)) × (flagged v p ≡ false → u (p .page) ≡ v (p .page)) → pageBytes u p ≡ pageBytes v p
   unfolding pageBytes

@@ -16,8 +16,6 @@ use Rattle.card.proofs.QuestionLaws.{none-asked, asked-yes, asked-no}
 use Rattle.card.proofs.Test.{byTest}
 use Rattle.card.specs.Question.{ask, firstNo}
 use Rattle.card.specs.Range.{Range, allBlocks}
-use Rattle.card.specs.declared.range.Lookup.{Lookup}
-use Rattle.card.specs.declared.range.Lookup.the-variants.{Located, Outside}
 use Rattle.frames.specs.Promise.{Lent, advanced}
 use Rattle.pages.proofs.AnswerLaws.{Later}
 use Rattle.pages.proofs.Demand2 as demand

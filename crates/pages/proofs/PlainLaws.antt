@@ -3,12 +3,14 @@
 use Prim.Native.Nat.{ℕ, _+_, _<_}
 use borrow.Author.Tests.{ltb-true, lt-ltb, ne-eqb}
 use lib.ListN.{length}
-use mathlib.Core.Bool.{Bool, true, false, cond, not, false≢true}
+use mathlib.Core.Bool.{Bool, true, false, not, false≢true}
 use mathlib.Core.List.{List, [], _∷_, _++_}
 use mathlib.Core.Option.{Option, none, some}
 use mathlib.Core.Path.{_≡_, refl, ap, sym, _∙_}
+use native.Mathlib.Decide.{ℕ-discrete}
 use native.Mathlib.Omega.{arith}
-use Rattle.card.proofs.QuestionLaws.{passed-both}
+use Rattle.card.proofs.QuestionLaws.{passed-both, group-yes, group-no}
+use Rattle.card.specs.Bytes.{All}
 use Rattle.card.specs.Question.{Question, firstNo}
 use Rattle.card.specs.Range.{Range, allBlocks}
 use Rattle.card.specs.declared.range.Address.{Address}
@@ -16,7 +18,7 @@ use Rattle.card.specs.declared.range.Lookup.{Lookup}
 use Rattle.card.specs.declared.range.Lookup.the-variants.{Located, Outside}
 use Rattle.frames.proofs.Run.{told, Asked}
 use Rattle.frames.specs.Promise.{Lent, meaningOf, common, FrameCall, past}
-use Rattle.pages.proofs.AnswerLaws.{Later, ownAsks, on-passed}
+use Rattle.pages.proofs.AnswerLaws.{Later, ownAsks, asks-numbered, on-passed}
 use Rattle.pages.proofs.BlankLaws.{blank-change, blank-snapshot, blank-pageOut, blank-kind}
 use Rattle.pages.proofs.CanLaws.{passed-can, edits-apart}
 use Rattle.pages.proofs.EditLaws.{placeOn, SameRows, Long, changes-long, Alike, page-alike, CanAll, Made, frames-more, edits-made}
@@ -45,15 +47,12 @@ use Rattle.recovery.specs.Write.{BlockWrite}
 use Rattle.frames.specs.Promise as frames
 
 -- two lists of questions that begin alike, or of a place alike, have the same first "no"
-begun-same : (ps qs rs : List Question) → (firstNo ps ≡ 0 → firstNo qs ≡ firstNo rs) → firstNo (ps ++ qs) ≡ firstNo (ps ++ rs)
-unfolding firstNo
-begun-same [] qs rs h = h refl
-begun-same (p ∷ ps) qs rs h = go (p .yes) (begun-same ps qs rs) h
+begun-same : (ps qs rs : List Question) → All (λ (q : Question). 0 < q .number) ps → (firstNo ps ≡ 0 → firstNo qs ≡ firstNo rs) → firstNo (ps ++ qs) ≡ firstNo (ps ++ rs)
+begun-same ps qs rs numbered h = go (ℕ-discrete (firstNo ps) 0)
   where
-    go : (b : Bool) → ((firstNo ps ≡ 0 → firstNo qs ≡ firstNo rs) → firstNo (ps ++ qs) ≡ firstNo (ps ++ rs)) → (cond b (firstNo ps) (p .number) ≡ 0 → firstNo qs ≡ firstNo rs)
-        → cond b (firstNo (ps ++ qs)) (p .number) ≡ cond b (firstNo (ps ++ rs)) (p .number)
-    go true rest e = rest e
-    go false rest e = refl
+    go : Dec (firstNo ps ≡ 0) → firstNo (ps ++ qs) ≡ firstNo (ps ++ rs)
+    go (yes e) = group-yes ps qs numbered e ∙ h e ∙ sym (group-yes ps rs numbered e)
+    go (no z) = group-no ps qs z ∙ sym (group-no ps rs z)
 
 placed-same : (a : Lookup) (f h : Address → List Question) → ((p : Address) → a ≡ Located p → firstNo (f p) ≡ firstNo (h p)) → firstNo (placed a f) ≡ firstNo (placed a h)
 unfolding atPlace
@@ -207,7 +206,7 @@ module _ (rs : List Range) (blocks area : ℕ) (full : blocks ≡ 1 + area + all
 
         page-asks : firstNo (pageAsks c (presentPage l p) ++ roomAsks (callFrames o c l) (meaningOf l))
             ≡ firstNo (rowAsks c (t .rows o) ++ roomSums (editTouches (placeOn rs area) (edits o c) (t .rows)) (t .ledger))
-        page-asks = rw (page-is, ← asks-same c (t .rows o)) (begun-same (pageAsks c (t .rows o .page)) _ _ (λ ok. ap firstNo (room ok)))
+        page-asks = rw (page-is, ← asks-same c (t .rows o)) (begun-same (pageAsks c (t .rows o .page)) _ _ (asks-numbered c (t .rows o .page)) (λ ok. ap firstNo (room ok)))
 
       on-asks : firstNo (ownAsks (on o c) l) ≡ firstNo (plainAsks (on o c) t)
       unfolding ownAsks asks heldAsks plainAsks
@@ -219,7 +218,7 @@ module _ (rs : List Range) (blocks area : ℕ) (full : blocks ≡ 1 + area + all
           let q = on-passed o c l own in
           let e : placeOn rs area o ≡ Located (q .place) = sym (address-is o) ∙ q .place-is in
           let same = page-is (q .place) e in
-          let able = can (q .place) e (sym (ap (λ (x : Page). firstNo (pageAsks c x)) same) ∙ q .page) in
+          let able = can (q .place) e (sym (ap (λ (x : Page). firstNo (pageAsks c x)) same) ∙ q .page-passes) in
           rw (q .place-is, frames-are able) (edits-agree (edits o c) able _ _ (ap (pageAnswer c) same ∙ answer-same c (t .rows o)))
 
     -- ---- advance: what is passed over is the same

@@ -11,7 +11,8 @@ use Rattle.card.specs.Block.{blockAt}
 use Rattle.card.specs.Header.{headerOn}
 use Rattle.card.specs.Question.{firstNo, headerRanges}
 use Rattle.card.specs.Range.{Range, allBlocks}
-use Rattle.pages.proofs.EditLaws.{pages-after, placeOn, AsTable, SameRows, Long, changes-long, CanAll, Made, edits-made}
+use Rattle.pages.proofs.EditLaws as edit
+use Rattle.pages.proofs.EditLaws.{pages-after, placeOn, AsTable, SameRows, changes-long, CanAll, Made, edits-made}
 use Rattle.pages.specs.Book.{Book, presentTo, headerReached, flushedBook, cutBook}
 use Rattle.pages.specs.Change.{Table, Edit, applied, atPlace, editFrames}
 use Rattle.pages.specs.Needed.{needed}
@@ -32,8 +33,8 @@ module _ (rs : List Range) (blocks area : ℕ) (full : blocks ≡ 1 + area + all
   abbrev pub SamePages : Contents → Table → Type 0
   SamePages v t = AsTable rs blocks area full pageOf v t
 
-  abbrev Whole : Contents → Type 0
-  Whole v = Long rs blocks area full v
+  abbrev Long : Contents → Type 0
+  Long v = edit.Long rs blocks area full v
 
   -- marked is empty in both books or in neither
   abbrev pub Both : Option Contents → Option Table → Type 0
@@ -47,12 +48,12 @@ module _ (rs : List Range) (blocks area : ℕ) (full : blocks ≡ 1 + area + all
   SameBefore none none = Unit {0}
   SameBefore none (some t) = ⊥
   SameBefore (some v) none = ⊥
-  SameBefore (some v) (some t) = Whole v × SamePages v t
+  SameBefore (some v) (some t) = Long v × SamePages v t
 
   pub record Represents (b : FrameBook) (pb : Book) : Type 0 where
-    pub long-present : Whole (b .present)
-    pub long-marked : Whole (markedOr b)
-    pub long-kept : Whole (b .kept)
+    pub long-present : Long (b .present)
+    pub long-marked : Long (markedOr b)
+    pub long-kept : Long (b .kept)
     pub present-is : SamePages (b .present) (pb .present)
     pub marked-is : SamePages (markedOr b) (Option·getD (pb .marked) (pb .kept))
     pub kept-is : SamePages (b .kept) (pb .kept)
@@ -79,14 +80,14 @@ module _ (rs : List Range) (blocks area : ℕ) (full : blocks ≡ 1 + area + all
   }
 
   -- with something else kept
-  represents-kept : (b : FrameBook) (pb : Book) (v : Contents) (t : Table) → Represents b pb → Whole v → SamePages v t
+  represents-kept : (b : FrameBook) (pb : Book) (v : Contents) (t : Table) → Represents b pb → Long v → SamePages v t
       → Represents (record { present = b .present; marked = b .marked; kept = v }) (record { present = pb .present; marked = pb .marked; kept = t; before = none })
   represents-kept b pb v t h l s =
       let m = go (b .marked) (pb .marked) (h .both-marked) (h .long-marked) (h .marked-is) in
       record { long-present = h .long-present; long-marked = m .0; long-kept = l; present-is = h .present-is; marked-is = m .1; kept-is = s; both-marked = h .both-marked }
     where
-      go : (x : Option Contents) (y : Option Table) → Both x y → Whole (Option·getD x (b .kept)) → SamePages (Option·getD x (b .kept)) (Option·getD y (pb .kept))
-          → Whole (Option·getD x v) × SamePages (Option·getD x v) (Option·getD y t)
+      go : (x : Option Contents) (y : Option Table) → Both x y → Long (Option·getD x (b .kept)) → SamePages (Option·getD x (b .kept)) (Option·getD y (pb .kept))
+          → Long (Option·getD x v) × SamePages (Option·getD x v) (Option·getD y t)
       go none none e a c = (l, s)
       go none (some y) e a c = absurd e
       go (some x) none e a c = absurd e
@@ -102,7 +103,7 @@ module _ (rs : List Range) (blocks area : ℕ) (full : blocks ≡ 1 + area + all
   represents-cut b pb (some v) (some t) e false h = represents-kept b pb v t h (e .0) (e .1)
 
   -- what is present changes, the rest stays
-  represents-present : (b : FrameBook) (pb : Book) (v : Contents) (t : Table) → Represents b pb → Whole v → SamePages v t → Represents (record { present = v; marked = b .marked; kept = b .kept }) (presentTo t pb)
+  represents-present : (b : FrameBook) (pb : Book) (v : Contents) (t : Table) → Represents b pb → Long v → SamePages v t → Represents (record { present = v; marked = b .marked; kept = b .kept }) (presentTo t pb)
   represents-present b pb v t h l s = record { long-present = l; long-marked = h .long-marked; long-kept = h .long-kept; present-is = s; marked-is = h .marked-is; kept-is = h .kept-is; both-marked = h .both-marked }
 
   -- ---- a list of changes

@@ -219,7 +219,7 @@ module _ (m₀ card₀ : List ℕ) (accepted : firstNo (startAsks m₀ card₀) 
         let q = asked-both (on o c) l tt ok in
         let low = has-frames l (q .0) in
         let f = on-passed o c l (q .1) in
-        let news = on-news l e low o (f .place) (sym (address-is l e low o) ∙ f .place-is) c (f .page) in
+        let news = on-news l e low o (f .place) (sym (address-is l e low o) ∙ f .place-is) c (f .page-passes) in
         rw (f .place-is, answered-page c (presentPage l (f .place)) .0) (news .0, (news .1, s .before-is))
     done-told l snapshot e ok = (tt, (represents-snapshot rs blocks area full book b (s .same), s .before-is))
     done-told l pageOut e ok = (tt, (s .same, s .before-is))

@@ -1,11 +1,12 @@
 -- The plain machine of demand 2: tables of pages and counts, and a ledger of numbers. It begins with what a start
 -- shows; after that it sees no card, no memory and no record.
 --
--- It shares with the calls: the place of an OID (question 9); which changes a call makes (Call: edits) and the frames
--- behind them (Change: editFrames); the form of a refusal; what a change, a snapshot, a page-out and each kind of
--- advance make of a generation (recovery's Step, here without bytes); the blocks of directory and trailer, and how a
--- header is laid out; which frames of a table are empty pages (Needed); how many entries count as passed over (Sums:
--- passedTo). With the book it shares what a change makes of a page (Change: changed).
+-- It shares with the calls, of pages: the place of an OID (question 9), which changes a call makes (Call: edits), the
+-- frames behind them (Change: editFrames), and the form of a refusal. Of generations (recovery's Step, here without
+-- bytes): what a change, a snapshot, a page-out and each kind of advance make of them, which entry M copies next, where
+-- the trailer stands, the blocks of directory and trailer, and which kinds write a block. Of the card: the ring, and how
+-- a header is laid out. Of migration: which frames of a table are empty pages (Needed), and how many entries count as
+-- passed over (Sums: passedTo). With the book it shares what a change makes of a page (Change: changed).
 --
 -- Its own are: its other questions, 10, 11 and 15 in its own words (rowAsks), and k by the frames that a change touches;
 -- its answers; the flags; when a flush is due; which kind is next and whether one is (Sums: remainingWrites); the
