@@ -1,12 +1,3 @@
-// The frame layer: a store of frames, named by their home blocks, that survives any cut. It knows nothing of keys, counts or flags.
-pub mod advance;
+// The frame layer: a store of frames, named by their home blocks, that survives any cut. It knows nothing of keys, counts or flags. What its calls answer
+// with and promise, and laws; the code is in `frames_load`, `frames_change` and `frames_advance`.
 pub mod answer;
-pub mod change;
-pub mod forecast;
-mod kind;
-pub mod load;
-pub mod page_out;
-mod place;
-pub mod question;
-pub mod snapshot;
-pub mod start;

@@ -10,13 +10,13 @@ use Rattle.pages.proofs.answer.Forecast as Forecast
 use Rattle.frames.proofs.answer.Advanced as Advanced
 use Rattle.frames.proofs.answer.Advanced.Laws as Advanced′
 use Rattle.frames.proofs.answer.Advance as Advance
-use Rattle.lane.proofs.answer.Counted as Counted
-use Rattle.lane.proofs.answer.Counted.Laws as Counted′
-use Rattle.lane.proofs.answer.Forecasted as Forecasted
-use Rattle.lane.proofs.answer.Forecasted.Laws as Forecasted′
-use Rattle.lane.proofs.answer.Reported as Reported
-use Rattle.lane.proofs.answer.Reported.Laws as Reported′
-use Rattle.lane.proofs.answer.Report as Report
+use Rattle.linked.proofs.answer.Counted as Counted
+use Rattle.linked.proofs.answer.Counted.Laws as Counted′
+use Rattle.linked.proofs.answer.Forecasted as Forecasted
+use Rattle.linked.proofs.answer.Forecasted.Laws as Forecasted′
+use Rattle.linked.proofs.answer.Reported as Reported
+use Rattle.linked.proofs.answer.Reported.Laws as Reported′
+use Rattle.linked.proofs.answer.Report as Report
 
 abbrev Answer : Type 2
 Answer = Answering S.the-type S′.the-laws S′.the-plain

@@ -1,5 +1,2 @@
--- Laws of answers in numbers, the structs that the calls answer with, and the two demands of the linked calls.
+-- The structs that the calls answer with, as the laws of wrappers take them.
 pub mod Answers
-pub mod NumberLaws
-pub mod Vectors
-pub mod Demands

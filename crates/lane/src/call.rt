@@ -2,29 +2,29 @@
 // nothing, so that there is none to put back: C gets them with a const record. Key and read are lent card and memory for
 // one lifetime, as their cores are.
 // Key, page-out, advance and forecast answer with an enum, and with numbers for C.
-use super::answer::Foretold;
-use super::answer::Present;
-use super::answer::Report;
 use super::number;
 use frames::answer::Advance;
-use pages::advance;
+use linked::answer::Foretold;
+use linked::answer::Present;
+use linked::answer::Report;
 use pages::answer::Count;
 use pages::answer::Forecast;
-use pages::forecast;
-use pages::format;
-use pages::key;
-use pages::page_out;
-use pages::read;
-use pages::rescind;
-use pages::snapshot;
-use pages::write;
+use pages_checkpoint::advance;
+use pages_checkpoint::forecast;
+use pages_checkpoint::format;
+use pages_checkpoint::page_out;
+use pages_checkpoint::snapshot;
+use pages_read::key;
+use pages_read::read;
+use pages_write::rescind;
+use pages_write::write;
 use record::store::Store;
 ghost use mathlib.Core.Path.{_≡_};
 ghost use Rattle.frames.specs.Promise.{lent, numbered, reported};
 ghost use Rattle.pages.specs.Call as call;
 ghost use Rattle.pages.specs.Promise.{answered, countedAs, foretoldAs, Kept, FormatKept};
 ghost use Rattle.record.specs.Meaning.{zeroStore};
-ghost use Rattle.lane.specs.Linked.{version, number, filling, present, foretelling, report, Linked};
+ghost use Rattle.linked.specs.Linked.{version, number, filling, present, foretelling, report, Linked};
 
 // The version of this interface: the record's form, the answers and the calls. A program compares it with the one of
 // the header that it was compiled with.

@@ -1,16 +1,16 @@
 // The calls with the record by value: each keeps the record in a local, lends it to a call over a lent record, and hands it back beside the answer.
 // A program that calls these is covered; one that lends the record itself is not.
-use super::answer::Counted;
-use super::answer::Forecasted;
 use super::call;
 use frames::answer::Advanced;
 use frames::answer::Done;
+use linked::answer::Counted;
+use linked::answer::Forecasted;
 use record::store::Store;
 ghost use Rattle.frames.specs.Promise.{lent, reported};
 ghost use Rattle.pages.specs.Call as call;
 ghost use Rattle.pages.specs.Promise.{answered, countedAs, foretoldAs, Kept};
 ghost use Rattle.record.specs.Meaning.{zeroStore};
-ghost use Rattle.lane.specs.Linked.{number, filling, Linked};
+ghost use Rattle.linked.specs.Linked.{number, filling, Linked};
 
 // The record that is handed in is not read.
 pub fn start(s: Store, card: &[u8], memory: &[u8]) -> Done

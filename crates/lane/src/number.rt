@@ -1,24 +1,24 @@
 // By-value calls in the form that a wrapper calls: answers that are enums as numbers, and start with the record that it replaces.
-use super::answer::Foretold;
-use super::answer::Present;
-use super::answer::Report;
-use super::answer::Reported;
 use frames::answer::Advance;
 use frames::answer::Done;
-use pages::advance;
+use linked::answer::Foretold;
+use linked::answer::Present;
+use linked::answer::Report;
+use linked::answer::Reported;
 use pages::answer::Count;
 use pages::answer::Forecast;
-use pages::forecast;
-use pages::key;
-use pages::page_out;
-use pages::start;
+use pages_checkpoint::advance;
+use pages_checkpoint::forecast;
+use pages_checkpoint::page_out;
+use pages_checkpoint::start;
+use pages_read::key;
 use record::store::Store;
 ghost use mathlib.Core.Path.{_≡_};
 ghost use Rattle.frames.specs.Promise.{lent, numbered};
 ghost use Rattle.pages.specs.Call.{key, start, on, pageOut, advance, forecast};
 ghost use Rattle.pages.specs.Promise.{answered, Kept};
 ghost use Rattle.record.specs.Meaning.{zeroStore};
-ghost use Rattle.lane.specs.Linked.{present, foretelling, report, presentOf, foretoldOf, reportOf, Linked};
+ghost use Rattle.linked.specs.Linked.{present, foretelling, report, presentOf, foretoldOf, reportOf, Linked};
 
 fn present(c: Count) -> Present
     ensures { λ r. ⌜ r ≡ presentOf c ⌝ }

@@ -27,7 +27,7 @@ fn advance_all(s: Store, card: &mut [u8], memory: &[u8]) {
     let mut t = s;
     let mut turns = 100u32;
     while turns > 0 {
-        let r = pages::advance::advance(t, card, memory);
+        let r = pages_checkpoint::advance::advance(t, card, memory);
         t = r.store;
         let a = r.answer;
         if !print_advance(a) {
@@ -40,9 +40,9 @@ fn advance_all(s: Store, card: &mut [u8], memory: &[u8]) {
 fn main() {
     let mut card = [0u8; 5632];
     let mut memory = [0u8; 2048];
-    pages::format::format(&mut card, 8, &[100, 1]);
-    let started = pages::start::start(&card, &memory);
-    let written = pages::write::write(started.store, &card, &mut memory, 100, 0, 0, &[7]);
-    let marked = pages::snapshot::snapshot(written.store, &card, &memory);
+    pages_checkpoint::format::format(&mut card, 8, &[100, 1]);
+    let started = pages_checkpoint::start::start(&card, &memory);
+    let written = pages_write::write::write(started.store, &card, &mut memory, 100, 0, 0, &[7]);
+    let marked = pages_checkpoint::snapshot::snapshot(written.store, &card, &memory);
     advance_all(marked.store, &mut card, &memory);
 }

@@ -1,4 +1,2 @@
-// The record that a lane program keeps between calls, tests over its arrays, and question 2: does it hold together?
-pub mod hold;
-pub mod list;
+// The record that a lane program keeps between calls: its form, what it means, what question 2 asks of it, and laws. The code is in `record_hold`.
 pub mod store;

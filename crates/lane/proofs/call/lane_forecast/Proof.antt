@@ -3,8 +3,8 @@
 use Rattle.wraplaw.proofs.Wrap.{refl, List, [], _∷_, struct-lawful, Param, shared, reader}
 use Rattle.record.proofs.store.Store as S
 use Rattle.record.proofs.store.Store.Laws as S′
-use Rattle.lane.proofs.answer.Foretold as R
-use Rattle.lane.proofs.answer.Foretold.Laws as R′
+use Rattle.linked.proofs.answer.Foretold as R
+use Rattle.linked.proofs.answer.Foretold.Laws as R′
 use Rattle.lane.proofs.number.forecast as core
 use Rattle.lane.proofs.number.forecast.Symbol as core-def
 use Rattle.lane.proofs.number.forecast.Met as core-thm

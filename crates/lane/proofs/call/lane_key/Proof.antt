@@ -3,8 +3,8 @@
 use Rattle.wraplaw.proofs.Wrap.{refl, List, [], _∷_, w32, struct-lawful, Param, number, shared, reader}
 use Rattle.record.proofs.store.Store as S
 use Rattle.record.proofs.store.Store.Laws as S′
-use Rattle.lane.proofs.answer.Present as R
-use Rattle.lane.proofs.answer.Present.Laws as R′
+use Rattle.linked.proofs.answer.Present as R
+use Rattle.linked.proofs.answer.Present.Laws as R′
 use Rattle.lane.proofs.number.key as core
 use Rattle.lane.proofs.number.key.Symbol as core-def
 use Rattle.lane.proofs.number.key.Met as core-thm

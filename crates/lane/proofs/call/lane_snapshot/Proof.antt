@@ -1,13 +1,13 @@
--- `lane::call::lane_snapshot` meets its contract, by the law of wrappers. All that the proof knows of `pages::snapshot::snapshot` is that it meets its contract.
+-- `lane::call::lane_snapshot` meets its contract, by the law of wrappers. All that the proof knows of `pages_checkpoint::snapshot::snapshot` is that it meets its contract.
 -- Assumes nothing.
 use Rattle.wraplaw.proofs.Wrap.{refl, List, [], _∷_, Param, shared, wrapper}
 use Rattle.record.proofs.store.Store as S
 use Rattle.record.proofs.store.Store.Laws as S′
 use Rattle.lane.proofs.Answers.{done}
-use Rattle.lane.proofs.NumberLaws.{linked-snapshot}
-use Rattle.pages.proofs.snapshot.snapshot as core
-use Rattle.pages.proofs.snapshot.snapshot.Symbol as core-def
-use Rattle.pages.proofs.snapshot.snapshot.Met as core-thm
+use Rattle.linked.proofs.NumberLaws.{linked-snapshot}
+use Rattle.pages_checkpoint.proofs.snapshot.snapshot as core
+use Rattle.pages_checkpoint.proofs.snapshot.snapshot.Symbol as core-def
+use Rattle.pages_checkpoint.proofs.snapshot.snapshot.Met as core-thm
 use Rattle.lane.proofs.call.lane_snapshot.Key.{name as #lane-snapshot}
 use Rattle.lane.proofs.call.lane_snapshot as f
 use Rattle.lane.proofs.call.lane_snapshot.Statement as stated
@@ -19,5 +19,5 @@ ps = shared 0 tt ∷ shared 1 tt ∷ []
 pub lane-snapshot-spec : {M : Type 1} → stated.statement M
 unfolding code.routine
 lane-snapshot-spec 𝓤 H 𝓜 𝓖 𝓡 =
-    wrapper S.the-type S′.the-laws S′.the-plain ps 𝓤 H 𝓜 𝓖 𝓡 code.env #lane-snapshot code.function (code.unfolded 𝓤 H 𝓜 𝓡) core-def.name core-def.routine code.calls-pages·snapshot·snapshot done (f.clauses 𝓤 H (𝓖 .A) (𝓜 .mem) (𝓡 .run)) (core.clauses 𝓤 H (𝓖 .A) (𝓜 .mem) (𝓡 .run)) refl refl (core-thm.met 𝓤 H 𝓜 𝓖 𝓡)
+    wrapper S.the-type S′.the-laws S′.the-plain ps 𝓤 H 𝓜 𝓖 𝓡 code.env #lane-snapshot code.function (code.unfolded 𝓤 H 𝓜 𝓡) core-def.name core-def.routine code.calls-pages-checkpoint·snapshot·snapshot done (f.clauses 𝓤 H (𝓖 .A) (𝓜 .mem) (𝓡 .run)) (core.clauses 𝓤 H (𝓖 .A) (𝓜 .mem) (𝓡 .run)) refl refl (core-thm.met 𝓤 H 𝓜 𝓖 𝓡)
     (λ κs bs are. (refl, refl)) (λ κs x bs d ws e. linked-snapshot _ _ _ e)

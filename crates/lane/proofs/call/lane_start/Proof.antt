@@ -4,7 +4,7 @@ use Rattle.wraplaw.proofs.Wrap.{refl, List, [], _∷_, Param, shared, wrapper}
 use Rattle.record.proofs.store.Store as S
 use Rattle.record.proofs.store.Store.Laws as S′
 use Rattle.lane.proofs.Answers.{done}
-use Rattle.lane.proofs.NumberLaws.{linked-start}
+use Rattle.linked.proofs.NumberLaws.{linked-start}
 use Rattle.lane.proofs.number.start as core
 use Rattle.lane.proofs.number.start.Symbol as core-def
 use Rattle.lane.proofs.number.start.Met as core-thm

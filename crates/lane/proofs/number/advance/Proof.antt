@@ -1,7 +1,7 @@
 -- `lane::number::advance` meets its contract.
 -- Assumes nothing.
 use borrow.Author.Needs.{needs}
-use Rattle.lane.proofs.NumberLaws.{linked-advance}
+use Rattle.linked.proofs.NumberLaws.{linked-advance}
 use Rattle.lane.proofs.number.advance.Statement.{statement}
 use Rattle.lane.proofs.number.advance.Tie as tie
 

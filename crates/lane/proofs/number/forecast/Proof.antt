@@ -1,7 +1,7 @@
 -- `lane::number::forecast` meets its contract.
 -- Assumes nothing.
 use borrow.Author.Needs.{needs}
-use Rattle.lane.proofs.NumberLaws.{linked-forecast}
+use Rattle.linked.proofs.NumberLaws.{linked-forecast}
 use Rattle.lane.proofs.number.forecast.Statement.{statement}
 use Rattle.lane.proofs.number.forecast.Tie as tie
 

@@ -2,7 +2,7 @@
 -- Assumes nothing.
 use borrow.Author.Needs.{needs}
 use mathlib.Core.Path.{ap, sym}
-use Rattle.lane.specs.Linked.{foretoldOf}
+use Rattle.linked.specs.Linked.{foretoldOf}
 use Rattle.lane.proofs.number.foretold.Statement.{statement}
 use Rattle.lane.proofs.number.foretold.Tie as tie
 

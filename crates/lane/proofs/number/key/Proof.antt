@@ -1,7 +1,7 @@
 -- `lane::number::key` meets its contract.
 -- Assumes nothing.
 use borrow.Author.Needs.{needs}
-use Rattle.lane.proofs.NumberLaws.{linked-key}
+use Rattle.linked.proofs.NumberLaws.{linked-key}
 use Rattle.lane.proofs.number.key.Statement.{statement}
 use Rattle.lane.proofs.number.key.Tie as tie
 

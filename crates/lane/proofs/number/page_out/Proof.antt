@@ -1,7 +1,7 @@
 -- `lane::number::page_out` meets its contract.
 -- Assumes nothing.
 use borrow.Author.Needs.{needs}
-use Rattle.lane.proofs.NumberLaws.{linked-pageOut}
+use Rattle.linked.proofs.NumberLaws.{linked-pageOut}
 use Rattle.lane.proofs.number.page_out.Statement.{statement}
 use Rattle.lane.proofs.number.page_out.Tie as tie
 

@@ -2,7 +2,7 @@
 -- Assumes nothing.
 use borrow.Author.Needs.{needs}
 use mathlib.Core.Path.{ap, sym}
-use Rattle.lane.specs.Linked.{presentOf}
+use Rattle.linked.specs.Linked.{presentOf}
 use Rattle.lane.proofs.number.present.Statement.{statement}
 use Rattle.lane.proofs.number.present.Tie as tie
 

@@ -2,7 +2,7 @@
 -- Assumes nothing.
 use borrow.Author.Needs.{needs}
 use mathlib.Core.Path.{ap, sym}
-use Rattle.lane.specs.Linked.{reportOf}
+use Rattle.linked.specs.Linked.{reportOf}
 use Rattle.lane.proofs.number.report.Statement.{statement}
 use Rattle.lane.proofs.number.report.Tie as tie
 

@@ -1,8 +1,0 @@
--- `frames::forecast::owed` meets its contract.
--- Assumes nothing.
-use Rattle.frames.proofs.ForecastLaws.{owed-one, owed-not}
-use Rattle.frames.proofs.forecast.owed.Statement.{statement}
-use Rattle.frames.proofs.forecast.owed.Tie as tie
-
-pub owed-spec : {M : Type 1} → statement M
-owed-spec = tie.close (tie.spec (λ c. owed-one _ (c .if1 .taken)) (λ c. owed-not _ (c .before .pre) (c .if1 .left)))

@@ -1,0 +1,86 @@
+-- `frames_load::load::newest` meets its contract.
+-- Assumes nothing.
+use borrow.Author.Needs.{needs}
+use native.Mathlib.Omega.{arith}
+use Rattle.frames.proofs.LoadLaws.{at-turn, current-placed, under, index-in, ring-in, at-place, turn-in}
+use Rattle.frames.specs.Parts.{pendingBytes}
+use Rattle.record.proofs.Held.{held}
+use Rattle.recovery.specs.State.{readFrame}
+use Rattle.frames_load.proofs.load.newest.Statement.{statement}
+use Rattle.frames_load.proofs.load.newest.Tie as tie
+
+returns : tie.Need-returns
+unfolding readFrame
+returns c =
+    let at-start = c .before .before .before .before .before .before in
+    let placed = current-placed (at-start .args .s) (at-start .pre .0) in
+    under placed (c .before .before .before .find .ensures) (λ card memory f. pendingBytes (at-start .args .s) f card memory) _ (c .before .if1 .taken) (c .in-pending .ensures)
+
+place-at-requires : tie.Need-place-at-requires
+place-at-requires c κs =
+    let at-start = c .before .before .before .before .before .before .before in
+    let placed = current-placed (at-start .args .s) (at-start .pre .0) in
+    index-in placed (c .before .before .before .before .find .ensures) (c .before .before .if1 .left)
+
+at-requires : tie.Need-at-requires
+at-requires c κs =
+    let at-start = c .before .before .before .before .before .before .before .before .before .before .before in
+    let at-find = c .before .before .before .before .before .before .before .before .find in
+    let at-if1 = c .before .before .before .before .before .before .if1 in
+    let placed = current-placed (at-start .args .s) (at-start .pre .0) in
+    ring-in placed (at-find .ensures) (at-if1 .left) (c .before .before .before .place-at .ensures .0) _ (c .current-first .ensures)
+
+returns-2 : tie.Need-returns-2
+unfolding readFrame
+returns-2 c =
+    let at-start = c .before .before .before .before .before .before .before .before .before .before .before .before in
+    let at-find = c .before .before .before .before .before .before .before .before .before .find in
+    let at-if1 = c .before .before .before .before .before .before .before .if1 in
+    let placed = current-placed (at-start .args .s) (at-start .pre .0) in
+    at-place placed (at-find .ensures) (at-if1 .left) (c .before .before .before .before .place-at .ensures .0) _ (c .before .current-first .ensures) (λ card memory f. pendingBytes (at-start .args .s) f card memory) _ (c .before .before .if2 .taken) (c .at .ensures)
+
+sub-ahead : tie.Need-sub-ahead
+sub-ahead c =
+    let at-start = c .before .before .before .before .before .before .before .before .before .before .before in
+    held (at-start .args .s) (at-start .pre .0) .pending-down
+
+add-seat : tie.Need-add-seat
+add-seat c =
+    let at-start = c .before .before .before .before .before .before .before .before .before .before .before .before in
+    let at-find = c .before .before .before .before .before .before .before .before .before .find in
+    let at-if1 = c .before .before .before .before .before .before .before .if1 in
+    let placed = current-placed (at-start .args .s) (at-start .pre .0) in
+    omega (arith, turn-in placed (at-find .ensures) (at-if1 .left) (c .before .before .before .before .place-at .ensures .0) (c .before .before .if2 .left), (at-start .pre .1 .1))
+
+seat-requires : tie.Need-seat-requires
+seat-requires c κs =
+    let at-start = c .before .before .before .before .before .before .before .before .before .before .before .before in
+    let at-find = c .before .before .before .before .before .before .before .before .before .find in
+    let at-if1 = c .before .before .before .before .before .before .before .if1 in
+    let placed = current-placed (at-start .args .s) (at-start .pre .0) in
+    (placed .together .head-low, (omega (arith, turn-in placed (at-find .ensures) (at-if1 .left) (c .before .before .before .before .place-at .ensures .0) (c .before .before .if2 .left)), (at-start .pre .1 .1)))
+
+returns-3 : tie.Need-returns-3
+unfolding readFrame
+returns-3 c =
+    let at-start = c .before .before .before .before .before .before .before .before .before .before .before .before .before in
+    let at-find = c .before .before .before .before .before .before .before .before .before .before .find in
+    let at-if1 = c .before .before .before .before .before .before .before .before .if1 in
+    let placed = current-placed (at-start .args .s) (at-start .pre .0) in
+    at-turn placed (at-find .ensures) (at-if1 .left) (c .before .before .before .before .before .place-at .ensures .0) (λ card memory f. pendingBytes (at-start .args .s) f card memory) _ (c .before .before .before .if2 .left) (c .seat .ensures)
+
+pub newest-spec : {M : Type 1} → statement M
+newest-spec =
+    tie.close
+    (tie.spec
+    (λ c κs. let placed = current-placed (c .before .before .args .s) (c .before .before .pre .0) in (placed .few, placed .listed .filed .rises))
+    (λ c κs. search needs)
+    returns
+    place-at-requires
+    (λ c κs. search needs)
+    at-requires
+    returns-2
+    sub-ahead
+    add-seat
+    seat-requires
+    returns-3)
