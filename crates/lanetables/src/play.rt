@@ -1,124 +1,87 @@
 // The steps of a case, one after the other.
 use super::call;
-use super::call::Made;
 use card_blocks::number;
 use libc::STDOUT_FILENO;
-use pages_checkpoint::format;
-use record::store::Store;
+use linked::answer::Report;
+use linked::answer::Reported;
 use record_hold::store;
 use script::Step;
+ghost use Prim.Native.Nat.{_≤_, _<_};
+ghost use lib.ListN.{length};
 
-// The record says that so many entries are home; or a number of the card is told, or put.
-fn doctor(s: Store, card: &mut [u8], step: Step) -> Made {
-    let n = step.numbers;
-    let at = number::wide(n[0]);
-    if step.word == 3 {
-        let mut t = s;
-        t.migrated = at;
-        return call::told(0, t);
-    }
-    if card.len() < at + 4 {
-        return call::told(0, s);
-    }
-    if step.word == 2 {
-        return call::told(number::get_u32(card, at), s);
-    }
-    number::put_u32(card, at, n[1]);
-    call::told(0, s)
-}
-
-// The numbers behind the first are those of ranges.
-fn format(s: Store, card: &mut [u8], step: Step) -> Made {
-    let n = step.numbers;
-    let end = step.count;
-    if end < 1 {
-        return call::told(0, s);
-    }
-    if 20 < end {
-        return call::told(0, s);
-    }
-    call::told(format::format(card, number::wide(n[0]), &n[1..end]), s)
-}
-
-fn fill(bytes: &mut [u8], byte: u32) {
-    let mut i = 0;
-    while i < bytes.len() {
-        bytes[i] = (byte % 256) as u8;
-        i += 1;
-    }
-}
-
-fn blank(m: Made, memory: &mut [u8], step: Step) -> Made {
-    let n = step.numbers;
-    fill(memory, n[0]);
-    m
+// The step at `at`. A word's number, below and in `call`, is its place here, from 0 on.
+fn step(steps: &[u8], at: usize) -> Step
+    requires { ⌜ at ≤ length (now steps) ⌝ }
+    ensures { λ r. ⌜ at < r .next ⌝ }
+{
+    script::read(
+        steps,
+        at,
+        b"card fill format put get page-out advance start snapshot migrated forecast key read first write rescind blank tell",
+    )
 }
 
 // Prints what the step before told.
-fn tell(m: Made) -> Made {
+fn tell(a: Report) {
     let kinds = b"-PDTMHF";
-    let kind = number::wide(m.kind);
-    io::write_all(STDOUT_FILENO, b" ");
-    if 0 < kind && kind < 7 {
-        io::write_all(STDOUT_FILENO, &[kinds[kind], b' ']);
+    let kind = number::wide(a.kind) % 7;
+    if kind == 0 {
+        io::write_all(STDOUT_FILENO, b" ");
+        io::print_decimal(STDOUT_FILENO, a.refusal as u64);
+    } else {
+        io::write_all(STDOUT_FILENO, &[b' ', kinds[kind], b' ']);
+        io::print_decimal(STDOUT_FILENO, a.block as u64);
     }
-    io::print_decimal(STDOUT_FILENO, m.number);
-    m
 }
 
-fn act(m: Made, card: &mut [u8], memory: &mut [u8], step: Step) -> Made {
-    let s = m.store;
+fn act(m: Reported, card: &mut [u8], memory: &mut [u8], step: Step) -> Reported {
     let word = step.word;
     match word {
-        1..=3 => doctor(s, card, step),
-        4 => format(s, card, step),
-        5..=9 => call::on_store(s, card, memory, word),
-        10..=12 => call::look(s, card, memory, step),
-        13 => call::write(s, card, memory, step),
-        14 => call::rescind(s, card, memory, step),
-        15 => blank(m, memory, step),
-        _ => tell(m),
+        1..=6 => call::on_card(m.store, card, memory, step),
+        7..=16 => {
+            let d = call::on_memory(m.store, card, memory, step);
+            call::told(d.answer, d.store)
+        }
+        _ => {
+            tell(m.answer);
+            m
+        }
     }
 }
 
 // From the step at `from` on.
-fn act_all(steps: &[u8], from: usize, names: &[u8], card: &mut [u8], memory: &mut [u8]) {
+fn act_all(steps: &[u8], from: usize, card: &mut [u8], memory: &mut [u8]) {
     let mut m = call::told(0, store::zeros());
     let mut at = from;
     while at < steps.len() {
-        let step = script::read(steps, at, names);
+        let step = step(steps, at);
         at = step.next;
         m = act(m, card, memory, step);
     }
 }
 
-// So many blocks and memory frames are lent.
-fn lend(steps: &[u8], step: Step, names: &[u8], card: &mut [u8], memory: &mut [u8]) {
-    let n = step.numbers;
-    let end = 512 * number::wide(n[0]);
-    let far = 512 * number::wide(n[1]);
-    if card.len() < end {
-        return;
+// So many times 512 bytes; none where that is more than there are.
+fn size(n: u32, most: usize) -> usize
+    ensures { λ r. ⌜ r ≤ most ⌝ }
+{
+    let size = 512 * number::wide(n);
+    if most < size {
+        return 0;
     }
-    if memory.len() < far {
-        return;
-    }
-    fill(card, n[2]);
-    act_all(
-        steps,
-        step.next,
-        names,
-        &mut card[0..end],
-        &mut memory[0..far],
-    );
+    size
 }
 
-// The first step says how many blocks and memory frames are lent, up to 516 and 65, and the byte that the card is full of.
+// 516 blocks, apart from `play`, which then knows nothing of 264192 bytes but their number.
+fn blocks() -> [u8; 264192] {
+    [0u8; 264192]
+}
+
+// The first step says how many blocks and memory frames are lent, up to 516 and 65.
 pub fn play(steps: &[u8]) {
-    let names =
-        b"card put get migrated format start snapshot page-out advance forecast key read first write rescind blank tell";
-    let mut card = [0u8; 264192];
+    let mut card = blocks();
     let mut memory = [0u8; 33280];
-    let step = script::read(steps, 0, names);
-    lend(steps, step, names, &mut card, &mut memory);
+    let step = step(steps, 0);
+    let end = size(step.first, 264192);
+    let far = size(step.second, 33280);
+    act_all(steps, step.next, &mut card[0..end], &mut memory[0..far]);
 }

@@ -3,12 +3,24 @@
 ghost use Prim.Native.Nat.{_≤_, _<_};
 ghost use lib.ListN.{length};
 
-// A word, by its place among the names, and its numbers, of which the first `count` were given. `next` is where the
-// next step begins.
+// The numbers behind a word: the first `count` were given, the others are 0. `next` is where the next step begins.
+struct Numbers {
+    list: [u32; 20],
+    count: usize,
+    next: usize,
+}
+
+// A word, by its place among the names, and its numbers. The first five have a field each: what uses them is proved
+// faster than by looking into the list.
 pub struct Step {
     pub word: usize,
+    pub first: u32,
+    pub second: u32,
+    pub third: u32,
+    pub fourth: u32,
+    pub fifth: u32,
+    pub list: [u32; 20],
     pub count: usize,
-    pub numbers: [u32; 20],
     pub next: usize,
 }
 
@@ -72,11 +84,11 @@ fn is_digit(b: u8) -> bool {
 }
 
 // A word's numbers: `at` is where the word ends.
-fn numbered(text: &[u8], at: usize, word: usize) -> Step
+fn numbered(text: &[u8], at: usize) -> Numbers
     requires { ⌜ at ≤ length (now text) ⌝ }
     ensures { λ r. ⌜ (at < r .next) × (r .count ≤ 20) ⌝ }
 {
-    let mut numbers = [0u32; 20];
+    let mut list = [0u32; 20];
     let mut count = 0;
     let mut next = at + 1;
     while count < 20 {
@@ -87,14 +99,13 @@ fn numbered(text: &[u8], at: usize, word: usize) -> Step
             break;
         }
         let end = until(text, next, b' ');
-        numbers[count] = (value(text, next, end, 10, 48) % 4294967296) as u32;
+        list[count] = (value(text, next, end, 10, 48) % 4294967296) as u32;
         count += 1;
         next = end + 1;
     }
-    Step {
-        word: word,
+    Numbers {
+        list: list,
         count: count,
-        numbers: numbers,
         next: next,
     }
 }
@@ -105,6 +116,17 @@ pub fn read(text: &[u8], at: usize, names: &[u8]) -> Step
     ensures { λ r. ⌜ (at < r .next) × (r .count ≤ 20) ⌝ }
 {
     let end = until(text, at, b' ');
-    let word = place(names, value(text, at, end, 256, 0));
-    numbered(text, end, word)
+    let n = numbered(text, end);
+    let l = n.list;
+    Step {
+        word: place(names, value(text, at, end, 256, 0)),
+        first: l[0],
+        second: l[1],
+        third: l[2],
+        fourth: l[3],
+        fifth: l[4],
+        list: l,
+        count: n.count,
+        next: n.next,
+    }
 }

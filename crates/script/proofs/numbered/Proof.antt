@@ -9,10 +9,10 @@ use Rattle.script.proofs.numbered.Statement.{statement}
 use Rattle.script.proofs.numbered.Tie as tie
 
 abbrev Inv-loop : tie.InvT-loop
-Inv-loop text at word numbers₀ count₀ next₀ numbers count next = (count ≤ 20) × ((at < next) × (length numbers ≡ 20))
+Inv-loop text at list₀ count₀ next₀ list count next = (count ≤ 20) × ((at < next) × (length list ≡ 20))
 
 abbrev μ-loop : tie.MeasureT-loop
-μ-loop text at word numbers₀ count₀ next₀ numbers count next = 20 - count
+μ-loop text at list₀ count₀ next₀ list count next = 20 - count
 
 pub numbered-spec : {M : Type 1} → statement M
 numbered-spec =

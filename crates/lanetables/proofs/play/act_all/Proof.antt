@@ -10,10 +10,10 @@ use Rattle.lanetables.proofs.play.act_all.Statement.{statement}
 use Rattle.lanetables.proofs.play.act_all.Tie as tie
 
 abbrev Inv-loop : tie.InvT-loop
-Inv-loop steps from names card₀ memory₀ m₀ at₀ card memory m at = (length card ≡ length card₀) × (length memory ≡ length memory₀)
+Inv-loop steps from card₀ memory₀ m₀ at₀ card memory m at = (length card ≡ length card₀) × (length memory ≡ length memory₀)
 
 abbrev μ-loop : tie.MeasureT-loop
-μ-loop steps from names card₀ memory₀ m₀ at₀ card memory m at = length steps - at
+μ-loop steps from card₀ memory₀ m₀ at₀ card memory m at = length steps - at
 
 pub act-all-spec : {M : Type 1} → statement M
 act-all-spec =

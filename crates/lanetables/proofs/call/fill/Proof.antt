@@ -1,11 +1,11 @@
--- `lanetables::play::fill` meets its contract. The loop ends at the last byte, and the length stays.
+-- `lanetables::call::fill` meets its contract. The loop ends at the last byte, and the length stays.
 -- Assumes nothing.
 use Prim.Native.Nat.{_-_}
 use lib.ListN.{length, length-set}
 use mathlib.Core.Path.{_≡_, refl}
 use native.Mathlib.Omega.{arith}
-use Rattle.lanetables.proofs.play.fill.Statement.{statement}
-use Rattle.lanetables.proofs.play.fill.Tie as tie
+use Rattle.lanetables.proofs.call.fill.Statement.{statement}
+use Rattle.lanetables.proofs.call.fill.Tie as tie
 
 abbrev Inv-loop : tie.InvT-loop
 Inv-loop bytes₀ byte i₀ bytes i = length bytes ≡ length bytes₀
