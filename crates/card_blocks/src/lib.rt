@@ -1,6 +1,4 @@
-// Code of `card`: stored numbers, blocks, the ring, places of OIDs, allocation pots.
+// Code of `card`: stored numbers, blocks, the ring of the checkpoint area.
 pub mod block;
 pub mod number;
-pub mod pot;
-pub mod range;
 pub mod ring;

@@ -2,7 +2,7 @@
 use card::header::Header;
 use card_blocks::block;
 use card_blocks::number;
-use card_blocks::range;
+use card_places::range;
 ghost use mathlib.Core.Path.{_≡_};
 ghost use Prim.Native.Nat.{_≤_, _<_};
 ghost use lib.ListN.{length};

@@ -1,9 +1,9 @@
 // Format: each pot, then the header, and no other block.
 use card_blocks::block;
 use card_blocks::number;
-use card_blocks::pot;
-use card_blocks::range;
 use card_checkpoint::header;
+use card_places::pot;
+use card_places::range;
 ghost use mathlib.Core.Path.{_≡_};
 ghost use mathlib.Core.Bool.{true};
 ghost use Prim.Native.Nat.{_+_, _*_, _/_, _≤_};

@@ -3,7 +3,7 @@
 use card::range::Address;
 use card::range::Lookup;
 use card_blocks::number;
-use card_blocks::range;
+use card_places::range;
 use frames_advance::advance;
 use frames_load::forecast;
 use frames_load::load;

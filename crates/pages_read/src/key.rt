@@ -1,6 +1,6 @@
 // Key: the present count for an OID. It changes nothing, and hands back its answer alone.
 use super::named;
-use card_blocks::pot;
+use card_places::pot;
 use frames_load::load;
 use frames_load::question;
 use pages::answer::Count;

@@ -2,8 +2,8 @@
 // its zero flag.
 use card::range::Address;
 use card::range::Lookup;
-use card_blocks::pot;
-use card_blocks::range;
+use card_places::pot;
+use card_places::range;
 use pages::named::Named;
 use record::store::Geometry;
 ghost use mathlib.Core.Path.{_≡_};

@@ -2,7 +2,7 @@
 use super::answer;
 use card_blocks::block;
 use card_blocks::number;
-use card_blocks::pot;
+use card_places::pot;
 use frames::answer::Done;
 use frames_change::change;
 use frames_load::load;

@@ -1,7 +1,7 @@
 // Question 2: does the record hold together? Sizes are asked before any loop, so that no directory is read beyond its array.
 use super::list;
-use card_blocks::range;
 use card_blocks::ring;
+use card_places::range;
 use record::store::Geometry;
 use record::store::Store;
 ghost use mathlib.Core.Path.{_≡_};
