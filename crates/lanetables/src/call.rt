@@ -24,6 +24,7 @@ pub fn told(n: u32, s: Store) -> Reported {
     }
 }
 
+// Makes all bytes the same, and tells 0 as a call that is done.
 fn fill(bytes: &mut [u8], byte: u32) -> u32 {
     let mut i = 0;
     while i < bytes.len() {
