@@ -1,4 +1,2 @@
-// Code of `frames` that writes the card: page-out and advance.
+// Code of `frames` that says which write is next: advance.
 pub mod advance;
-mod kind;
-pub mod page_out;

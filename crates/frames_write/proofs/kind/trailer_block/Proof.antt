@@ -1,4 +1,4 @@
--- `frames_advance::kind::trailer_block` meets its contract.
+-- `frames_write::kind::trailer_block` meets its contract.
 -- Assumes nothing.
 use borrow.Author.Needs.{needs}
 use denote.Ref.{now}
@@ -7,8 +7,8 @@ use Rattle.card.proofs.TrailerLaws.{trailer-length}
 use Rattle.frames.proofs.KindLaws.{kind-done, behind-fits, behind-inside, trailer-write}
 use Rattle.record.proofs.Held.{held, bounds}
 use Rattle.recovery.specs.Step.{trailer, afterKind}
-use Rattle.frames_advance.proofs.kind.trailer_block.Statement.{statement}
-use Rattle.frames_advance.proofs.kind.trailer_block.Tie as tie
+use Rattle.frames_write.proofs.kind.trailer_block.Statement.{statement}
+use Rattle.frames_write.proofs.kind.trailer_block.Tie as tie
 
 add-t8 : tie.Need-add-t8
 add-t8 c =

@@ -1,4 +1,4 @@
--- `frames_advance::kind::directory_block` meets its contract.
+-- `frames_write::kind::directory_block` meets its contract.
 -- Assumes nothing.
 use Prim.Native.Nat.{_<_}
 use borrow.Author.Needs.{needs}
@@ -8,8 +8,8 @@ use Rattle.card.proofs.DirectoryLaws.{dirBlock-length}
 use Rattle.frames.proofs.KindLaws.{kind-done, directory-fits, behind-fits, behind-inside, directory-write}
 use Rattle.record.proofs.Held.{Held, held, bounds}
 use Rattle.recovery.specs.Step.{directory}
-use Rattle.frames_advance.proofs.kind.directory_block.Statement.{statement}
-use Rattle.frames_advance.proofs.kind.directory_block.Tie as tie
+use Rattle.frames_write.proofs.kind.directory_block.Statement.{statement}
+use Rattle.frames_write.proofs.kind.directory_block.Tie as tie
 
 -- question 2, and that there is an entry
 together : (c : tie.Start) → Held (c .args .s)

@@ -1,11 +1,11 @@
--- `frames_advance::page_out::page_out` meets its contract.
+-- `frames_write::page_out::page_out` meets its contract.
 -- Assumes nothing.
 use borrow.Author.Needs.{needs}
 use mathlib.Core.Path.{sym, _∙_}
 use Rattle.frames.proofs.CallLaws.{page-out-common, page-out-owed}
 use Rattle.frames.specs.Promise.{reported}
-use Rattle.frames_advance.proofs.page_out.page_out.Statement.{statement}
-use Rattle.frames_advance.proofs.page_out.page_out.Tie as tie
+use Rattle.frames_write.proofs.page_out.page_out.Statement.{statement}
+use Rattle.frames_write.proofs.page_out.page_out.Tie as tie
 
 returns-2 : tie.Need-returns-2
 unfolding reported

@@ -1,4 +1,4 @@
--- `frames_advance::page_out::out_due` meets its contract.
+-- `frames_write::page_out::out_due` meets its contract.
 -- Assumes nothing.
 use borrow.Author.Needs.{needs}
 use mathlib.Core.Bool.{false}
@@ -10,8 +10,8 @@ use Rattle.frames.specs.Promise.{reported}
 use Rattle.record.proofs.Held.{Held, held}
 use Rattle.record.specs.Meaning.{phaseOf}
 use Rattle.recovery.specs.State.{isOwed}
-use Rattle.frames_advance.proofs.page_out.out_due.Statement.{statement}
-use Rattle.frames_advance.proofs.page_out.out_due.Tie as tie
+use Rattle.frames_write.proofs.page_out.out_due.Statement.{statement}
+use Rattle.frames_write.proofs.page_out.out_due.Tie as tie
 
 good : (a : tie.Start) → Held (a .args .s)
 good a = held (a .args .s) (ready (a .args .s) _ _ (a .pre .0) .together)

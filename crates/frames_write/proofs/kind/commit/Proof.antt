@@ -1,12 +1,12 @@
--- `frames_advance::kind::commit` meets its contract.
+-- `frames_write::kind::commit` meets its contract.
 -- Assumes nothing.
 use borrow.Author.Needs.{needs}
 use native.Mathlib.Omega.{arith}
 use Rattle.frames.proofs.KindLaws.{commit-step}
 use Rattle.record.proofs.Held.{held}
 use Rattle.record.proofs.NoneLaws.{emptied-none}
-use Rattle.frames_advance.proofs.kind.commit.Statement.{statement}
-use Rattle.frames_advance.proofs.kind.commit.Tie as tie
+use Rattle.frames_write.proofs.kind.commit.Statement.{statement}
+use Rattle.frames_write.proofs.kind.commit.Tie as tie
 
 add-next : tie.Need-add-next
 add-next c =

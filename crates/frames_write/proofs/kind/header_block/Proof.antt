@@ -1,4 +1,4 @@
--- `frames_advance::kind::header_block` meets its contract.
+-- `frames_write::kind::header_block` meets its contract.
 -- Assumes nothing.
 use borrow.Author.Needs.{needs}
 use denote.Ref.{now}
@@ -10,8 +10,8 @@ use Rattle.card.specs.Ring.{dirBlocks}
 use Rattle.frames.proofs.KindLaws.{kind-done, behind-fits, behind-inside, header-write}
 use Rattle.record.proofs.Held.{held, bounds}
 use Rattle.recovery.specs.Step.{header}
-use Rattle.frames_advance.proofs.kind.header_block.Statement.{statement}
-use Rattle.frames_advance.proofs.kind.header_block.Tie as tie
+use Rattle.frames_write.proofs.kind.header_block.Statement.{statement}
+use Rattle.frames_write.proofs.kind.header_block.Tie as tie
 
 add-end : tie.Need-add-end
 add-end c =

@@ -1,12 +1,12 @@
--- `frames_advance::page_out::current` meets its contract.
+-- `frames_write::page_out::current` meets its contract.
 -- Assumes nothing.
 use borrow.Author.Needs.{needs}
 use native.Mathlib.Omega.{arith}
 use Rattle.frames.proofs.OutLaws.{current-done}
 use Rattle.frames.proofs.ReadyLaws.{ready, firsts, current-short, area-block}
 use Rattle.record.proofs.Held.{held, bounds}
-use Rattle.frames_advance.proofs.page_out.current.Statement.{statement}
-use Rattle.frames_advance.proofs.page_out.current.Tie as tie
+use Rattle.frames_write.proofs.page_out.current.Statement.{statement}
+use Rattle.frames_write.proofs.page_out.current.Tie as tie
 
 at-requires : tie.Need-at-requires
 at-requires c κs =

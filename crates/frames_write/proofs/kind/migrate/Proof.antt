@@ -1,4 +1,4 @@
--- `frames_advance::kind::migrate` meets its contract.
+-- `frames_write::kind::migrate` meets its contract.
 -- Assumes nothing.
 use Prim.Native.Nat.{_≤_}
 use borrow.Author.Needs.{needs}
@@ -9,8 +9,8 @@ use Rattle.card.specs.Ring.{ringAt}
 use Rattle.frames.proofs.KindLaws.{kind-done, home-step, home-write, home-inside, home-fits}
 use Rattle.record.proofs.Held.{held, bounds}
 use Rattle.recovery.specs.Step.{migration}
-use Rattle.frames_advance.proofs.kind.migrate.Statement.{statement}
-use Rattle.frames_advance.proofs.kind.migrate.Tie as tie
+use Rattle.frames_write.proofs.kind.migrate.Statement.{statement}
+use Rattle.frames_write.proofs.kind.migrate.Tie as tie
 
 -- there are at most 256 entries
 few : (c : tie.Start) → c .args .s .committed .count ≤ 256

@@ -1,10 +1,10 @@
--- `frames_advance::kind::tail_down` meets its contract.
+-- `frames_write::kind::tail_down` meets its contract.
 -- Assumes nothing.
 use native.Mathlib.Omega.{arith}
 use Rattle.frames.proofs.KindLaws.{tail-step}
 use Rattle.record.proofs.Held.{held, bounds}
-use Rattle.frames_advance.proofs.kind.tail_down.Statement.{statement}
-use Rattle.frames_advance.proofs.kind.tail_down.Tie as tie
+use Rattle.frames_write.proofs.kind.tail_down.Statement.{statement}
+use Rattle.frames_write.proofs.kind.tail_down.Tie as tie
 
 add-next : tie.Need-add-next
 add-next c =
