@@ -1,10 +1,10 @@
 // Advance: one block write or a flush. With a snapshot pending its waiting frames (P), directory (D), trailer (T),
 // what is left of the committed generation's migration (M), a flush (F), header (H); with none pending only M. Just
 // after a header write and after a start a flush comes before all else.
+use super::page_out;
 use frames::answer::Advance;
 use frames::answer::Advanced;
-use frames_write::kind;
-use frames_write::page_out;
+use frames_checkpoint::kind;
 use record::store::Store;
 ghost use mathlib.Core.Bool.{true};
 ghost use mathlib.Core.Path.{_≡_};

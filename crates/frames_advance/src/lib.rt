@@ -1,2 +1,3 @@
-// Code of `frames` that says which write is next: advance.
+// Code of `frames` that writes the card: page-out and advance.
 pub mod advance;
+pub mod page_out;

@@ -1,11 +1,11 @@
 // The newest bytes of a frame: of current, pending, committed, home. An array is copied before it is searched: a record of which an element is looked up is copied whole.
-use super::place;
 use card_blocks::block;
 use card_blocks::number;
 use card_blocks::ring;
 use frames::answer::Found;
 use record::store::Store;
-use record_hold::list;
+use record_hold::place;
+use record_list::list;
 ghost use mathlib.Core.Path.{_≡_};
 ghost use mathlib.Core.Bool.{true};
 ghost use Prim.Native.Nat.{_≤_, _<_};

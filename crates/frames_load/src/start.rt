@@ -5,7 +5,7 @@ use card_checkpoint::checkpoint;
 use frames::answer::Done;
 use record::store::Geometry;
 use record::store::Store;
-use record_hold::store;
+use record_list::store;
 ghost use mathlib.Core.Path.{_≡_};
 ghost use Rattle.record.specs.Meaning.{zeroStore};
 ghost use Rattle.frames.specs.Promise.{start, lent, numbered, FrameKept};

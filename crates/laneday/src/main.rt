@@ -8,7 +8,7 @@ use libc::STDOUT_FILENO;
 use pages::answer::Count;
 use pages::answer::Forecast;
 use record::store::Store;
-use record_hold::store;
+use record_list::store;
 
 fn print_line(name: &[u8], n: u64) {
     io::write_all(STDOUT_FILENO, name);

@@ -4,7 +4,7 @@ use card_blocks::number;
 use libc::STDOUT_FILENO;
 use linked::answer::Report;
 use linked::answer::Reported;
-use record_hold::store;
+use record_list::store;
 use script::Step;
 ghost use Prim.Native.Nat.{_≤_, _<_};
 ghost use lib.ListN.{length};

@@ -10,7 +10,7 @@ use frames_load::load;
 use pages_read::named;
 use record::store::Geometry;
 use record::store::Store;
-use record_hold::list;
+use record_list::list;
 ghost use mathlib.Core.Bool.{true};
 ghost use mathlib.Core.Path.{_≡_};
 ghost use Prim.Native.Nat.{_+_, _≤_, _<_};

@@ -1,6 +1,6 @@
 // Page-out: the oldest waiting frame goes to the card, and its block is reported.
 use frames::answer::Advanced;
-use frames_write::page_out;
+use frames_advance::page_out;
 use record::store::Store;
 ghost use Rattle.frames.specs.Promise.{lent, reported};
 ghost use Rattle.pages.specs.Call.{pageOut};

@@ -1,9 +1,9 @@
 // Question 2: does the record hold together? Sizes are asked before any loop, so that no directory is read beyond its array.
-use super::list;
 use card_blocks::ring;
 use card_places::range;
 use record::store::Geometry;
 use record::store::Store;
+use record_list::list;
 ghost use mathlib.Core.Path.{_≡_};
 ghost use mathlib.Core.Bool.{true};
 ghost use Prim.Native.Nat.{_+_, _≤_, _<_};

@@ -1,4 +1,3 @@
-// Code of `record`: question 2, does it hold together? And lookups in its arrays, and the record of zeros.
+// Code of `record`: question 2, does it hold together? And where its generations begin and frames wait.
 pub mod hold;
-pub mod list;
-pub mod store;
+pub mod place;

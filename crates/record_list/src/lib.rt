@@ -1,0 +1,3 @@
+// Code of `record`: lookups in its arrays, and records of zeros.
+pub mod list;
+pub mod store;
