@@ -13,10 +13,10 @@ use Rattle.card.proofs.AllLaws.{all-join, all-left, all-right, all-tab,
 use Rattle.card.proofs.RangeLaws.{geometry-tells}
 use Rattle.card.proofs.Test.{byTest, both, joined}
 use Rattle.card.specs.Bytes.{tabulate, All}
-use Rattle.card.specs.Range.{Range, rangeIn, rangesOf, potCount, rangeBlocks, geometryFits, addressIn, locate, allBlocks, allPots}
+use Rattle.card.specs.Range.{Range, rangeIn, rangesOf, potCount, rangeBlocks, geometryFits, addressIn, someBelow, someAbove, missing, locateOr, locate, allBlocks, allPots}
 use Rattle.card.specs.declared.range.Address.{Address}
 use Rattle.card.specs.declared.range.Lookup.{Lookup}
-use Rattle.card.specs.declared.range.Lookup.the-variants.{Located}
+use Rattle.card.specs.declared.range.Lookup.the-variants.{Located, Gap, Outside}
 
 -- ---- where a place lies
 
@@ -32,23 +32,44 @@ pub record Within (lo hi : ℕ) (p : Address) : Type 0 where
 in-range : (start n r : ℕ) → r < n → Within start (start + rangeBlocks n) (addressIn start r)
 in-range start n r h = omega arith
 
+-- an OID in no range has no place
+pub no-place : {A : Type 0} (rs : List Range) (oid : ℕ) (p : Address) → missing rs oid ≡ Located p → A
+unfolding missing
+no-place {A} rs oid p = go (someBelow rs oid && someAbove rs oid)
+  where
+    go : (t : Bool) → cond t Gap Outside ≡ Located p → A
+    go true e = let z : _≡_ {A = ℕ} 0 1 = cc in absurd (omega arith)
+    go false e = let z : _≡_ {A = ℕ} 0 1 = cc in absurd (omega arith)
+
+-- where a range has it, what would be said otherwise does not matter
+had : (a b : Lookup) (rs : List Range) (start oid : ℕ) (p : Address) → a ≢ Located p → locateOr a rs start oid ≡ Located p → locateOr b rs start oid ≡ Located p
+unfolding locateOr
+had a b [] start oid p d = λ e. absurd (d e)
+had a b (r ∷ rs) start oid p d = go (leb (r .oid) oid && ltb oid (r .oid + r .pages)) (had a b rs (start + rangeBlocks (r .pages)) oid p d)
+  where
+    go : (t : Bool) → (locateOr a rs (start + rangeBlocks (r .pages)) oid ≡ Located p → locateOr b rs (start + rangeBlocks (r .pages)) oid ≡ Located p)
+        → cond t (Located (addressIn start (oid - r .oid))) (locateOr a rs (start + rangeBlocks (r .pages)) oid) ≡ Located p
+        → cond t (Located (addressIn start (oid - r .oid))) (locateOr b rs (start + rangeBlocks (r .pages)) oid) ≡ Located p
+    go true rec e = e
+    go false rec e = rec e
+
 -- the two ways in which a page is found
 pub data Found (r : Range) (rs : List Range) (start oid : ℕ) (p : Address) : Type 0 where
   here : r .oid ≤ oid → oid < r .oid + r .pages → addressIn start (oid - r .oid) ≡ p → Found r rs start oid p
   later : locate rs (start + rangeBlocks (r .pages)) oid ≡ Located p → Found r rs start oid p
 
 pub found : (r : Range) (rs : List Range) (start oid : ℕ) (p : Address) → locate (r ∷ rs) start oid ≡ Located p → Found r rs start oid p
-unfolding locate
+unfolding locate locateOr
 found r rs start oid p = go (leb (r .oid) oid && ltb oid (r .oid + r .pages)) refl
   where
     go : (t : Bool) → leb (r .oid) oid && ltb oid (r .oid + r .pages) ≡ t
-        → cond t (Located (addressIn start (oid - r .oid))) (locate rs (start + rangeBlocks (r .pages)) oid) ≡ Located p → Found r rs start oid p
+        → cond t (Located (addressIn start (oid - r .oid))) (locateOr (missing (r ∷ rs) oid) rs (start + rangeBlocks (r .pages)) oid) ≡ Located p → Found r rs start oid p
     go true e q = let t = both (leb (r .oid) oid) _ e in here (leb-true _ _ (t .0)) (ltb-true _ _ (t .1)) (cc)
-    go false e q = later q
+    go false e q = later (had (missing (r ∷ rs) oid) (missing rs oid) rs (start + rangeBlocks (r .pages)) oid p (no-place (r ∷ rs) oid p) q)
 
 nowhere : {A : Type 0} (start oid : ℕ) (p : Address) → locate [] start oid ≡ Located p → A
-unfolding locate
-nowhere start oid p e = let z : _≡_ {A = ℕ} 0 1 = cc in absurd (omega arith)
+unfolding locate locateOr
+nowhere start oid p e = no-place [] oid p e
 
 -- every place lies among the blocks of its ranges
 pub lies : (rs : List Range) (start oid : ℕ) (p : Address) → locate rs start oid ≡ Located p → Within start (start + allBlocks rs) p
@@ -67,21 +88,21 @@ lies-home blocks area rs oid p g e = rw (geometry-tells blocks area rs g .full) 
 
 -- ---- an OID of a range has a place
 
-located-from : (f : ℕ → Range) (first n start oid i : ℕ) → first ≤ i → i < first + n → f i .oid ≤ oid → oid < f i .oid + f i .pages
-    → (p : Address) × (locate (tabulate f first n) start oid ≡ Located p)
-unfolding tabulate locate
-located-from f first zero start oid i a b l h = absurd (omega arith)
-located-from f first (suc n) start oid i a b l h = byTest (λ (x : Lookup). (p : Address) × (x ≡ Located p)) (leb (f first .oid) oid && ltb oid (f first .oid + f first .pages))
+located-from : (none : Lookup) (f : ℕ → Range) (first n start oid i : ℕ) → first ≤ i → i < first + n → f i .oid ≤ oid → oid < f i .oid + f i .pages
+    → (p : Address) × (locateOr none (tabulate f first n) start oid ≡ Located p)
+unfolding tabulate locateOr
+located-from none f first zero start oid i a b l h = absurd (omega arith)
+located-from none f first (suc n) start oid i a b l h = byTest (λ (x : Lookup). (p : Address) × (x ≡ Located p)) (leb (f first .oid) oid && ltb oid (f first .oid + f first .pages))
     (λ t. (addressIn start (oid - f first .oid), refl))
-    (λ t. located-from f (suc first) n (start + rangeBlocks (f first .pages)) oid i (not-first t) (omega arith) l h)
+    (λ t. located-from none f (suc first) n (start + rangeBlocks (f first .pages)) oid i (not-first t) (omega arith) l h)
   where
     not-first : leb (f first .oid) oid && ltb oid (f first .oid + f first .pages) ≡ false → first < i
     not-first t = ⊎-elim (λ e. absurd (false≢true (sym t ∙ rw e (joined _ _ (le-leb _ _ l) (lt-ltb _ _ h))))) (λ q. q) (eq-or-lt-of-le a)
 
 pub located : (numbers : List ℕ) (n start oid i : ℕ) → i < n → rangeIn numbers i .oid ≤ oid → oid < rangeIn numbers i .oid + rangeIn numbers i .pages
     → (p : Address) × (locate (rangesOf numbers n) start oid ≡ Located p)
-unfolding rangesOf
-located numbers n start oid i b l h = located-from (rangeIn numbers) 0 n start oid i (omega arith) (omega arith) l h
+unfolding rangesOf locate
+located numbers n start oid i b l h = located-from (missing (tabulate (rangeIn numbers) 0 n) oid) (rangeIn numbers) 0 n start oid i (omega arith) (omega arith) l h
 
 -- ---- two OIDs
 

@@ -6,6 +6,7 @@ pub mod BlockLaws
 pub mod RingLaws
 pub mod RangeLaws
 pub mod AddressLaws
+pub mod LookupLaws
 pub mod Table
 pub mod PotLaws
 pub mod HeaderLaws

@@ -10,8 +10,8 @@ use mathlib.Core.Path.{_≡_, refl, ap, sym, _∙_}
 use native.Mathlib.Decide.{ℕ-discrete}
 use native.Mathlib.Omega.{arith}
 use Rattle.card.proofs.RingLaws.{size-some}
-use Rattle.card.proofs.Test.{both}
-use Rattle.card.specs.Bytes.{each, All}
+use Rattle.card.proofs.Test.{both, byTest}
+use Rattle.card.specs.Bytes.{All}
 use Rattle.card.specs.Question.{Question, ask, firstNo, headerRanges, commitFits, headerAsks, endsAt, trailerFits, entryFits, entriesFit}
 use Rattle.card.specs.Range.{geometryFits}
 use Rattle.card.specs.Ring.{ringAt, ringOffset, half, dirBlocks, generationSize}
@@ -66,6 +66,12 @@ groups-passed ps qs n h = go (ℕ-discrete (firstNo ps) 0)
     go : Dec (firstNo ps ≡ 0) → (firstNo ps ≡ 0) × (firstNo qs ≡ 0)
     go (yes z) = (z, sym (group-yes ps qs n z) ∙ h)
     go (no d) = absurd (d (sym (group-no ps qs d) ∙ h))
+
+-- what holds of 0 and of every question's number holds of the first "no"
+pub first-among : (P : ℕ → Type 0) (qs : List Question) → P 0 → All (λ (q : Question). P (q .number)) qs → P (firstNo qs)
+unfolding firstNo
+first-among P [] z h = z
+first-among P (q ∷ qs) z h = byTest P (q .yes) (λ _. first-among P qs z (h .1)) (λ _. h .0)
 
 -- ---- question 8
 

@@ -1,10 +1,10 @@
 -- Laws of ranges: loops over them, and question 5 both ways.
 -- Assumes nothing.
 use Prim.Native.Nat.{ℕ, _+_, _-_, _*_, _≤_, _<_}
-use borrow.Author.Tests.{leb-true, le-leb, eqb-true, eq-eqb}
+use borrow.Author.Tests.{leb-true, le-leb, lt-leb, lt-ltb, le-ltb, eqb-true, eq-eqb}
 use lib.Dec.{leb, ltb, eqb}
 use lib.ListN.{length, getD}
-use mathlib.Core.Bool.{Bool, true, false, _&&_}
+use mathlib.Core.Bool.{Bool, true, false, _&&_, and-false}
 use mathlib.Core.List.{List, [], _∷_}
 use mathlib.Core.Path.{_≡_, refl, _∙_}
 use native.Mathlib.Omega.{arith}
@@ -12,8 +12,9 @@ use Rattle.card.proofs.BytesLaws.{tab-more}
 use Rattle.card.proofs.HeaderLaws.{FitsRange}
 use Rattle.card.proofs.Test.{both, joined}
 use Rattle.card.specs.Bytes.{tabulate, All}
-use Rattle.card.specs.Range.{Range, rangeIn, rangeBlocks, rangesFill, geometryFits, addressIn, locate, allBlocks}
-use Rattle.card.specs.declared.range.Lookup.the-variants.{Located, Outside}
+use Rattle.card.specs.Range.{Range, rangeIn, rangeBlocks, rangesFill, geometryFits, addressIn, someBelow, someAbove, missing, locateOr, allBlocks}
+use Rattle.card.specs.declared.range.Lookup.{Lookup}
+use Rattle.card.specs.declared.range.Lookup.the-variants.{Located, Gap, Outside}
 
 -- ---- one range of question 5 after the other
 
@@ -56,18 +57,59 @@ fill-end low at blocks l e = rw e
 pub holds-low : (first pages oid : ℕ) → leb first oid && ltb oid (first + pages) ≡ true → first ≤ oid
 holds-low first pages oid e = leb-true _ _ (both (leb first oid) _ e .0)
 
-module _ (start oid : ℕ) (r : Range) (rs l : List Range) (e : l ≡ r ∷ rs) where
-  pub locate-here : leb (r .oid) oid && ltb oid (r .oid + r .pages) ≡ true → locate l start oid ≡ Located (addressIn start (oid - r .oid))
-  unfolding locate
-  locate-here h = rw (e, locate, h)
+module _ (none : Lookup) (start oid : ℕ) (r : Range) (rs l : List Range) (e : l ≡ r ∷ rs) where
+  pub locate-here : leb (r .oid) oid && ltb oid (r .oid + r .pages) ≡ true → locateOr none l start oid ≡ Located (addressIn start (oid - r .oid))
+  unfolding locateOr
+  locate-here h = rw (e, locateOr, h)
 
-  pub locate-later : leb (r .oid) oid && ltb oid (r .oid + r .pages) ≡ false → locate l start oid ≡ locate rs (start + rangeBlocks (r .pages)) oid
-  unfolding locate
-  locate-later h = rw (e, locate, h)
+  pub locate-later : leb (r .oid) oid && ltb oid (r .oid + r .pages) ≡ false → locateOr none l start oid ≡ locateOr none rs (start + rangeBlocks (r .pages)) oid
+  unfolding locateOr
+  locate-later h = rw (e, locateOr, h)
 
-pub locate-none : (start oid : ℕ) (l : List Range) → l ≡ [] → locate l start oid ≡ Outside
-unfolding locate
-locate-none start oid l e = rw (e, locate)
+pub locate-none : (none : Lookup) (start oid : ℕ) (l : List Range) → l ≡ [] → locateOr none l start oid ≡ none
+unfolding locateOr
+locate-none none start oid l e = rw (e, locateOr)
+
+-- ---- a search for a range below an OID, and for one above it
+
+module _ (oid : ℕ) (r : Range) (rs l : List Range) (e : l ≡ r ∷ rs) where
+  pub below-here : r .oid + r .pages ≤ oid → someBelow l oid ≡ true
+  unfolding someBelow
+  below-here h = rw (e, someBelow, le-leb (r .oid + r .pages) oid h)
+
+  pub below-later : oid < r .oid + r .pages → someBelow l oid ≡ someBelow rs oid
+  unfolding someBelow
+  below-later h = rw (e, someBelow, lt-leb (r .oid + r .pages) oid h)
+
+  pub above-here : oid < r .oid → someAbove l oid ≡ true
+  unfolding someAbove
+  above-here h = rw (e, someAbove, lt-ltb oid (r .oid) h)
+
+  pub above-later : r .oid ≤ oid → someAbove l oid ≡ someAbove rs oid
+  unfolding someAbove
+  above-later h = rw (e, someAbove, le-ltb oid (r .oid) h)
+
+pub below-none : (oid : ℕ) (l : List Range) → l ≡ [] → someBelow l oid ≡ false
+unfolding someBelow
+below-none oid l e = rw (e, someBelow)
+
+pub above-none : (oid : ℕ) (l : List Range) → l ≡ [] → someAbove l oid ≡ false
+unfolding someAbove
+above-none oid l e = rw (e, someAbove)
+
+-- what is said of an OID in no range
+module _ (rs : List Range) (oid : ℕ) where
+  pub missing-gap : someBelow rs oid ≡ true → someAbove rs oid ≡ true → missing rs oid ≡ Gap
+  unfolding missing
+  missing-gap b a = rw (b, a)
+
+  pub missing-below : someBelow rs oid ≡ false → missing rs oid ≡ Outside
+  unfolding missing
+  missing-below b = rw b
+
+  pub missing-above : someAbove rs oid ≡ false → missing rs oid ≡ Outside
+  unfolding missing
+  missing-above a = rw (a, and-false (someBelow rs oid))
 
 -- ---- question 5, both ways
 

@@ -1,14 +1,17 @@
--- Blocks of the card, byte by byte, as document 01 lays them down: two headers, a trailer, a directory block, a pot.
--- The definitions stand on both sides of demand 2, so that a wrong layout would be wrong on both; here it is refused.
+-- Blocks of the card, byte by byte, as document 01 lays them down: two headers, a trailer, a directory block, a pot; and
+-- OIDs at the borders of ranges. The definitions stand on both sides of demand 2, so that a wrong layout or place would
+-- be wrong on both; here it is refused.
 -- Assumes nothing.
 use lib.ListN.{take, drop, length, replicate}
-use mathlib.Core.List.{[], _∷_, _++_}
+use mathlib.Core.List.{List, [], _∷_, _++_}
 use mathlib.Core.Path.{_≡_, refl}
 use Rattle.card.specs.Bytes.{pairs, u32Bytes, words, pad}
 use Rattle.card.specs.Directory.{dirBlock}
 use Rattle.card.specs.Header.{headerBlock}
 use Rattle.card.specs.Pot.{freshEntries, freshPot}
+use Rattle.card.specs.Range.{Range, someBelow, someAbove, missing, locateOr, locate}
 use Rattle.card.specs.Trailer.{trailerBlock}
+use Rattle.card.specs.declared.range.Lookup.the-variants.{Located, Gap, Outside}
 
 -- layout 1, commit 258, trailer block 4, A 8, one range: OID 100, 3 pages
 pub header-bytes : headerBlock 258 4 8 (record { oid = 100; pages = 3 } ∷ [])
@@ -41,3 +44,23 @@ pub pot-bytes : (take 10 freshPot ≡ 0 ∷ 0 ∷ 0 ∷ 0 ∷ 1 ∷ 0 ∷ 0 ∷ 
     × (drop 505 freshPot ≡ 0 ∷ 0 ∷ 0 ∷ 0 ∷ 1 ∷ 0 ∷ 0 ∷ []) × (length freshPot ≡ 512)
 unfolding freshPot freshEntries
 pot-bytes = (refl, refl, refl)
+
+-- OIDs 10 to 14 and 20 to 24, on a card with A 8: nothing at 9 and 25, a gap at 15 and 19
+abbrev pub apart : List Range
+apart = record { oid = 10; pages = 5 } ∷ record { oid = 20; pages = 5 } ∷ []
+
+pub gap-lookups : (locate apart 9 9 ≡ Outside) × (locate apart 9 15 ≡ Gap) × (locate apart 9 19 ≡ Gap) × (locate apart 9 25 ≡ Outside)
+unfolding locate locateOr missing someBelow someAbove
+gap-lookups = (refl, refl, refl, refl)
+
+pub page-lookups : (locate apart 9 14 ≡ Located (record { page = 14; pot = 9; entry = 4 })) × (locate apart 9 20 ≡ Located (record { page = 16; pot = 15; entry = 0 }))
+unfolding locate locateOr missing someBelow someAbove
+page-lookups = (refl, refl)
+
+-- OIDs 10 to 14 and 15 to 19: ranges that touch
+abbrev pub touching : List Range
+touching = record { oid = 10; pages = 5 } ∷ record { oid = 15; pages = 5 } ∷ []
+
+pub touching-lookups : (locate touching 9 9 ≡ Outside) × (locate touching 9 15 ≡ Located (record { page = 16; pot = 15; entry = 0 })) × (locate touching 9 20 ≡ Outside)
+unfolding locate locateOr missing someBelow someAbove
+touching-lookups = (refl, refl, refl)

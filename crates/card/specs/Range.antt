@@ -1,4 +1,4 @@
--- Home ranges (document 01, 'The card'): what question 5 asks of them, and the place of an OID.
+-- Home ranges (document 01, 'The card'; document 02, #101): what question 5 asks of them, and the place of an OID.
 --
 --   block of a range   what
 --   0                  pot of pages 0 to 101
@@ -6,7 +6,7 @@
 --   103                pot of pages 102 to 203
 --   ..
 -- Assumes nothing.
-use mathlib.Core.Bool.{Bool, cond, _&&_}
+use mathlib.Core.Bool.{Bool, false, cond, _&&_, _||_}
 use mathlib.Core.List.{List, [], _∷_, _++_}
 use Prim.Native.Nat.{ℕ, _+_, _-_, _*_, _/_, _%_}
 use lib.Dec.{ltb, leb, eqb}
@@ -14,7 +14,7 @@ use lib.ListN.{length, getD}
 use Rattle.card.specs.Bytes.{tabulate}
 use Rattle.card.specs.declared.range.Address.{Address}
 use Rattle.card.specs.declared.range.Lookup.{Lookup}
-use Rattle.card.specs.declared.range.Lookup.the-variants.{Located, Outside}
+use Rattle.card.specs.declared.range.Lookup.the-variants.{Located, Gap, Outside}
 
 -- a range: its first OID and its n pages
 pub record Range : Type 0 where
@@ -49,10 +49,26 @@ geometryFits blocks area rs = leb 8 area && (leb area 512 && (leb 1 (length rs) 
 abbrev pub addressIn : ℕ → ℕ → Address
 addressIn start r = record { page = start + r + r / 102 + 1; pot = start + 103 * (r / 102); entry = r % 102 }
 
--- the place of an OID, in ranges that follow from block start (question 9)
+-- does a range end at or below an OID, and does one begin above it?
+unfoldable pub someBelow : List Range → ℕ → Bool
+someBelow [] oid = false
+someBelow (r ∷ rs) oid = leb (r .oid + r .pages) oid || someBelow rs oid
+
+unfoldable pub someAbove : List Range → ℕ → Bool
+someAbove [] oid = false
+someAbove (r ∷ rs) oid = ltb oid (r .oid) || someAbove rs oid
+
+-- an OID in no range: it lies between two of them (21), or below the first or above the last (9)
+unfoldable pub missing : List Range → ℕ → Lookup
+missing rs oid = cond (someBelow rs oid && someAbove rs oid) Gap Outside
+
+-- the place of an OID, in ranges that follow from block start; `none` where no range has it
+unfoldable pub locateOr : Lookup → List Range → ℕ → ℕ → Lookup
+locateOr none [] start oid = none
+locateOr none (r ∷ rs) start oid = cond (leb (r .oid) oid && ltb oid (r .oid + r .pages)) (Located (addressIn start (oid - r .oid))) (locateOr none rs (start + rangeBlocks (r .pages)) oid)
+
 unfoldable pub locate : List Range → ℕ → ℕ → Lookup
-locate [] start oid = Outside
-locate (r ∷ rs) start oid = cond (leb (r .oid) oid && ltb oid (r .oid + r .pages)) (Located (addressIn start (oid - r .oid))) (locate rs (start + rangeBlocks (r .pages)) oid)
+locate rs start oid = locateOr (missing rs oid) rs start oid
 
 -- the blocks that ranges take
 abbrev pub allBlocks : List Range → ℕ

@@ -8,8 +8,9 @@ pub struct Address {
     pub entry: usize,
 }
 
-// What is at an OID.
+// What is at an OID: a page; a gap between two ranges; nothing, below the first range or above the last.
 pub enum Lookup {
     Located(Address),
+    Gap,
     Outside,
 }

@@ -6,7 +6,7 @@ ghost use mathlib.Core.Path.{_≡_};
 ghost use mathlib.Core.Bool.{_&&_};
 ghost use Prim.Native.Nat.{_+_, _≤_, _<_};
 ghost use lib.Dec.{leb, ltb};
-ghost use Rattle.card.specs.Range.{rangesOf, rangesFill, rangeBlocks, geometryFits, addressIn, locate};
+ghost use Rattle.card.specs.Range.{rangesOf, rangesFill, rangeBlocks, geometryFits, addressIn, someBelow, someAbove, missing, locate};
 
 // The blocks of a range of n pages.
 pub fn blocks(n: usize) -> usize
@@ -93,6 +93,52 @@ fn address_in(start: usize, r: usize) -> Address
     }
 }
 
+// Does a range end at or below an OID?
+fn some_below(numbers: &[u32; 16], count: usize, oid: usize) -> bool
+    requires { ⌜ count ≤ 8 ⌝ }
+    ensures { λ r. ⌜ r ≡ someBelow (rangesOf (now (numbers .entry)) count) oid ⌝ }
+{
+    let mut i = 0;
+    while i < count {
+        let first = wide(numbers[2 * i]);
+        let pages = wide(numbers[2 * i + 1]);
+        if first + pages <= oid {
+            return true;
+        }
+        i += 1;
+    }
+    false
+}
+
+// Does a range begin above an OID?
+fn some_above(numbers: &[u32; 16], count: usize, oid: usize) -> bool
+    requires { ⌜ count ≤ 8 ⌝ }
+    ensures { λ r. ⌜ r ≡ someAbove (rangesOf (now (numbers .entry)) count) oid ⌝ }
+{
+    let mut i = 0;
+    while i < count {
+        if oid < wide(numbers[2 * i]) {
+            return true;
+        }
+        i += 1;
+    }
+    false
+}
+
+// An OID in no range lies between two of them, or outside.
+fn missing(numbers: &[u32; 16], count: usize, oid: usize) -> Lookup
+    requires { ⌜ count ≤ 8 ⌝ }
+    ensures { λ r. ⌜ r ≡ missing (rangesOf (now (numbers .entry)) count) oid ⌝ }
+{
+    if !some_below(numbers, count, oid) {
+        return Lookup::Outside;
+    }
+    if !some_above(numbers, count, oid) {
+        return Lookup::Outside;
+    }
+    Lookup::Gap
+}
+
 // The place of an OID.
 pub fn find(area: usize, numbers: &[u32; 16], count: usize, oid: u32) -> Lookup
     requires { ⌜ (area ≤ 512) × (count ≤ 8) ⌝ }
@@ -110,5 +156,5 @@ pub fn find(area: usize, numbers: &[u32; 16], count: usize, oid: u32) -> Lookup
         start = start + blocks(pages);
         i += 1;
     }
-    Lookup::Outside
+    missing(numbers, count, sought)
 }

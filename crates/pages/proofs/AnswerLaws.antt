@@ -10,12 +10,14 @@ use mathlib.Core.Logic.{_≢_}
 use mathlib.Core.Option.{none}
 use mathlib.Core.Path.{_≡_, refl, ap, sym, _∙_, subst}
 use native.Mathlib.Omega.{arith}
-use Rattle.card.proofs.QuestionLaws.{none-asked, asked-no, groups-passed}
+use Rattle.card.proofs.AllLaws.{all-map}
+use Rattle.card.proofs.QuestionLaws.{none-asked, asked-yes, asked-no, groups-passed}
+use Rattle.card.proofs.Test.{byTest}
 use Rattle.card.specs.Bytes.{All}
 use Rattle.card.specs.Question.{Question, firstNo}
 use Rattle.card.specs.declared.range.Address.{Address}
 use Rattle.card.specs.declared.range.Lookup.{Lookup}
-use Rattle.card.specs.declared.range.Lookup.the-variants.{Located, Outside}
+use Rattle.card.specs.declared.range.Lookup.the-variants.{Located, Gap, Outside}
 use Rattle.frames.proofs.KeepLaws.{outcome-done, outcome-refused, keeps-refused, keeps-done, done-tells, refused-tells, back-card, back-memory}
 use Rattle.frames.proofs.ReadyLaws.{common-passed, common-both}
 use Rattle.frames.specs.Promise.{Lent, meaningOf, common, FrameAnswer, FrameKept}
@@ -61,19 +63,59 @@ asked-both c l k e = common-both (l .store) (length (l .memory)) (length (l .car
 pub asked-own : (c : Call) (l : Lent) → Later c → firstNo (common l) ≡ 0 → firstNo (asks c l) ≡ firstNo (ownAsks c l)
 asked-own c l k e = ap firstNo (asks-are c l k) ∙ common-passed (l .store) (length (l .memory)) (length (l .card)) (ownAsks c l) e
 
--- 9 is passed: there is a place, and the rest is asked of it
+-- 21 and 9: of a place the rest is asked, and nothing else passes
+pub placed-located : (p : Address) (rest : Address → List Question) → firstNo (placed (Located p) rest) ≡ firstNo (rest p)
+unfolding placed atPlace
+placed-located p rest = asked-yes 21 true _ refl ∙ asked-yes 9 true _ refl
+
+pub placed-gap : (rest : Address → List Question) → firstNo (placed Gap rest) ≡ 21
+unfolding placed
+placed-gap rest = asked-no 21 false _ refl
+
+pub placed-outside : (rest : Address → List Question) → firstNo (placed Outside rest) ≡ 9
+unfolding placed
+placed-outside rest = asked-yes 21 true _ refl ∙ asked-no 9 false _ refl
+
 pub found-place : (a : Lookup) (rest : Address → List Question) → firstNo (placed a rest) ≡ 0 → (p : Address) × (a ≡ Located p) × (firstNo (rest p) ≡ 0)
-unfolding atPlace
-found-place Outside rest e = absurd (omega (arith, sym (asked-no 9 false [] refl), e))
-found-place (Located p) rest e = (p, refl, e)
+found-place (Located p) rest e = (p, refl, sym (placed-located p rest) ∙ e)
+found-place Gap rest e = absurd (omega (arith, placed-gap rest, e))
+found-place Outside rest e = absurd (omega (arith, placed-outside rest, e))
+
+-- of a call on a page
+module _ (o : ℕ) (c : PageCall) (l : Lent) where
+  ofPlace : Address → List Question
+  ofPlace p = pageAsks c (presentPage l p) ++ roomAsks (callFrames o c l) (meaningOf l)
+
+  pub on-located : (p : Address) → addressOf l o ≡ Located p → firstNo (ownAsks (on o c) l) ≡ firstNo (pageAsks c (presentPage l p) ++ roomAsks (callFrames o c l) (meaningOf l))
+  unfolding ownAsks asks heldAsks ofPlace
+  on-located p e = ap (λ (a : Lookup). firstNo (placed a ofPlace)) e ∙ placed-located p ofPlace
+
+  pub on-gap : addressOf l o ≡ Gap → firstNo (ownAsks (on o c) l) ≡ 21
+  unfolding ownAsks asks heldAsks ofPlace
+  on-gap e = ap (λ (a : Lookup). firstNo (placed a ofPlace)) e ∙ placed-gap ofPlace
+
+  pub on-outside : addressOf l o ≡ Outside → firstNo (ownAsks (on o c) l) ≡ 9
+  unfolding ownAsks asks heldAsks ofPlace
+  on-outside e = ap (λ (a : Lookup). firstNo (placed a ofPlace)) e ∙ placed-outside ofPlace
+
+-- the questions after 9, and their numbers: none of them is 9 or 21
+abbrev pub Behind9 : ℕ → Type 0
+Behind9 n = (9 < n) × (n ≢ 21)
+
+pub asks-behind : (c : PageCall) (x : Page) → All (λ (q : Question). Behind9 (q .number)) (pageAsks c x)
+unfolding pageAsks
+asks-behind key x = tt
+asks-behind (read n b) x = (omega arith, (omega arith, tt))
+asks-behind (write n at new) x = (omega arith, (omega arith, tt))
+asks-behind (rescind n) x = (omega arith, (omega arith, tt))
+
+pub room-behind : (ws : List FrameBytes) (s : State) → All (λ (q : Question). Behind9 (q .number)) (roomAsks ws s)
+unfolding roomAsks
+room-behind ws s = byTest (All (λ (q : Question). Behind9 (q .number))) (eqb (newPlaces ws s) 0) (λ _. tt) (λ _. (omega arith, (omega arith, (omega arith, tt))))
 
 -- no question has number 0
 pub asks-numbered : (c : PageCall) (x : Page) → All (λ (q : Question). 0 < q .number) (pageAsks c x)
-unfolding pageAsks
-asks-numbered key x = tt
-asks-numbered (read n b) x = (omega arith, (omega arith, tt))
-asks-numbered (write n at new) x = (omega arith, (omega arith, tt))
-asks-numbered (rescind n) x = (omega arith, (omega arith, tt))
+asks-numbered c x = all-map (λ (q : Question). Behind9 (q .number)) (λ (q : Question). 0 < q .number) (pageAsks c x) (λ q h. omega (arith, h .0)) (asks-behind c x)
 
 -- a call on a page that passes: its place, what is asked of the page, and room for its frames
 pub record Passed (o : ℕ) (c : PageCall) (l : Lent) : Type 0 where

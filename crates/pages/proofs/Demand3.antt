@@ -22,7 +22,7 @@ use Rattle.frames.proofs.ReadyLaws.{has-frames}
 use Rattle.frames.proofs.Recovery.{frames-recover}
 use Rattle.frames.proofs.Run.{startLent, stays, firstWorld, Serves}
 use Rattle.frames.specs.Promise.{Lent, lent, meaningOf, common, FrameAnswer, FrameKept}
-use Rattle.pages.proofs.AnswerLaws.{ownAsks, asked-own, asks-numbered, change-none, block-done, kept-done, lowered}
+use Rattle.pages.proofs.AnswerLaws.{asked-own, on-located, asks-numbered, change-none, block-done, kept-done, lowered}
 use Rattle.pages.proofs.FormatLaws.{format-area, format-ranges, format-accepted, format-shows, format-done}
 use Rattle.pages.proofs.RunLaws.{Beside, or-false, serves, address-is, page-shown, called-beside, run-beside, spoilt-run, needs}
 use Rattle.pages.specs.Book.{Book, Event, formatBook, isDone, isFlush, told, bookAfter}
@@ -33,7 +33,7 @@ use Rattle.pages.specs.Page.{emptyPage, pageOf, formatCard}
 use Rattle.pages.specs.Promise.{addressOf, presentPage, callFrames, asks, frameCall, doneAnswer, outcome, Kept, rangesIn, formatAsks, FormatKept}
 use Rattle.record.specs.Meaning.{zeroStore}
 use Rattle.recovery.proofs.FrameTheorem.{allNeeded, accepted-stored, stored-long}
-use Rattle.recovery.specs.Questions.{startAsks, heldAsks}
+use Rattle.recovery.specs.Questions.{startAsks}
 use Rattle.recovery.specs.State.{State, readFrame}
 use Rattle.recovery.specs.Step.{startState}
 use Rattle.recovery.specs.Write.{Drive, putAll, seen, Left, Spoilt}
@@ -60,9 +60,9 @@ module _ (m₀ card₀ : List ℕ) (accepted : firstNo (startAsks m₀ card₀) 
 
     -- a call that changes no frame, and passes what is asked of the page
     passes-on : (c : PageCall) → edits o c ≡ [] → firstNo (pageAsks c (b .present o)) ≡ 0 → firstNo (asks (on o c) l) ≡ 0
-    unfolding ownAsks asks heldAsks atPlace callFrames editFrames
-    passes-on c nothing ok = asked-own (on o c) l tt passes ∙ rw (place-is, nothing, page-is)
-        (group-yes (pageAsks c (b .present o)) _ (asks-numbered c (b .present o)) ok ∙ change-none (meaningOf l) .0)
+    unfolding callFrames editFrames
+    passes-on c nothing ok = asked-own (on o c) l tt passes ∙ on-located o c l p place-is
+        ∙ rw (nothing, page-is) (group-yes (pageAsks c (b .present o)) _ (asks-numbered c (b .present o)) ok ∙ change-none (meaningOf l) .0)
 
     answers-on : (c : PageCall) → firstNo (asks (on o c) l) ≡ 0 → (a : Answer) (l′ : Lent) → Kept (on o c) l a l′ → a ≡ pageAnswer c (b .present o)
     unfolding doneAnswer atPlace

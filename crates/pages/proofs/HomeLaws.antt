@@ -16,14 +16,14 @@ use Rattle.card.specs.Pot.{flagsAt, isZero}
 use Rattle.card.specs.Range.{rangeIn, rangesOf, allBlocks}
 use Rattle.card.specs.declared.directory.Entry.{Entry}
 use Rattle.card.specs.declared.range.Address.{Address}
-use Rattle.card.specs.declared.range.Lookup.{Lookup}
-use Rattle.card.specs.declared.range.Lookup.the-variants.{Located, Outside}
 use Rattle.frames.specs.Parts.{Readable, MigratingIs, CommittedParts, PartsLent}
 use Rattle.frames.specs.Promise.{lent, meaningOf, LoadsCommitted}
 use Rattle.pages.proofs.NeededLaws.{At, at-tells, pot-needed, page-needed}
-use Rattle.pages.specs.Needed.{pageAt}
+use Rattle.pages.specs.Needed.{frameAt}
 use Rattle.pages.specs.Page.{flagged}
 use Rattle.pages.specs.Promise.{committedFrames, over, passedOf, OverIs, PassedIs, MovesIs, OverAsked}
+use Rattle.pages.specs.declared.home.Frame.{Frame}
+use Rattle.pages.specs.declared.home.Frame.the-variants as Frames
 use Rattle.record.proofs.Held.{held, bounds}
 use Rattle.record.specs.Holds.{holdsTogether}
 use Rattle.record.specs.Meaning.{committedOf, phaseOf}
@@ -50,10 +50,10 @@ module _ (s : Store) (card : List ℕ) (w : Readable s card) where
 
   module _ (f : ℕ) where
     -- a pot is not passed over
-    pub over-none : pageAt (rangesOf (s .geometry .ranges) (s .geometry .count)) (1 + s .geometry .area) f ≡ Outside → OverIs s card f false
+    pub over-none : frameAt (rangesOf (s .geometry .ranges) (s .geometry .count)) (1 + s .geometry .area) f ≡ Frames.Pot → OverIs s card f false
     over-none e = λ memory. sym (ap not (pot-needed (rangesOf (s .geometry .ranges) (s .geometry .count)) (s .geometry .area) (s .geometry .blocks) home-full (committedFrames (lent s memory card)) f e))
 
-    module _ (p : Address) (e : pageAt (rangesOf (s .geometry .ranges) (s .geometry .count)) (1 + s .geometry .area) f ≡ Located p) where
+    module _ (p : Address) (e : frameAt (rangesOf (s .geometry .ranges) (s .geometry .count)) (1 + s .geometry .area) f ≡ Frames.Page p) where
       told : At (rangesOf (s .geometry .ranges) (s .geometry .count)) (1 + s .geometry .area) (1 + s .geometry .area + allBlocks (rangesOf (s .geometry .ranges) (s .geometry .count))) f p
       told = at-tells (rangesOf (s .geometry .ranges) (s .geometry .count)) (1 + s .geometry .area) f p e
 
@@ -70,9 +70,9 @@ module _ (s : Store) (card : List ℕ) (w : Readable s card) where
 
 -- ---- by the parts of a record
 
--- the page at a home block
-abbrev pub pageBy : Geometry → ℕ → Lookup
-pageBy g f = pageAt (rangesOf (g .ranges) (g .count)) (1 + g .area) f
+-- the frame at a home block
+abbrev pub frameBy : Geometry → ℕ → Frame
+frameBy g f = frameAt (rangesOf (g .ranges) (g .count)) (1 + g .area) f
 
 module _ {g : Geometry} {first : ℕ} {frames places : List ℕ} {count : ℕ} {card : List ℕ} {f : ℕ} (k : OverAsked g first frames places count card f) where
   pub asked-searchable : (g .area ≤ 512) × ((g .count ≤ 8) × ((g .area < f) × (f ≤ 65536)))
@@ -83,9 +83,9 @@ module _ {g : Geometry} {first : ℕ} {frames places : List ℕ} {count : ℕ} {
         (subst (λ (x : Geometry). x .count ≤ 8) (sym (k .geometry-is)) (low .1), (k .home .0, omega (arith, k .home .1, same, k .readable .card-few))),
       )
 
-  module _ (p : Address) (e : pageBy g f ≡ Located p) where
-    there : pageBy (k .store .geometry) f ≡ Located p
-    there = sym (ap (λ (x : Geometry). pageBy x f) (k .geometry-is)) ∙ e
+  module _ (p : Address) (e : frameBy g f ≡ Frames.Page p) where
+    there : frameBy (k .store .geometry) f ≡ Frames.Page p
+    there = sym (ap (λ (x : Geometry). frameBy x f) (k .geometry-is)) ∙ e
 
     pub asked-lent : PartsLent (g .area) first frames places count card (p .pot)
     asked-lent = record { store = k .store; parts = k .parts; readable = k .readable; inside = pot-inside (k .store) card (k .readable) f p there }

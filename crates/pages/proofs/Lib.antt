@@ -1,5 +1,6 @@
 -- Laws of the page layer, and the two demands.
 pub mod AnswerLaws
+pub mod PlaceLaws
 pub mod RowLaws
 pub mod NeededLaws
 pub mod HomeLaws

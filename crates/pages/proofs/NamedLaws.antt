@@ -22,12 +22,12 @@ use Rattle.card.specs.Question.{Question, ask, firstNo}
 use Rattle.card.specs.Range.{rangeIn, rangesOf}
 use Rattle.card.specs.declared.range.Address.{Address}
 use Rattle.card.specs.declared.range.Lookup.{Lookup}
-use Rattle.card.specs.declared.range.Lookup.the-variants.{Located, Outside}
+use Rattle.card.specs.declared.range.Lookup.the-variants.{Located, Gap, Outside}
 use Rattle.frames.proofs.LoadLaws.{newest-whole}
 use Rattle.frames.proofs.ReadyLaws.{Ready, ready, common-passed, common-refused}
 use Rattle.frames.specs.Parts.{framesWith, Changing}
 use Rattle.frames.specs.Promise.{Lent, meaningOf, commonAsks, common}
-use Rattle.pages.specs.Change.{atPlace}
+use Rattle.pages.proofs.AnswerLaws.{placed-located, placed-gap, placed-outside}
 use Rattle.pages.specs.Page.{pageBytes}
 use Rattle.pages.specs.Promise.{addressOf, presentFrames, placed, NamedIs}
 use Rattle.pages.specs.declared.named.Named.{Named}
@@ -162,7 +162,7 @@ page-empty v p pot e h = rw (← e, h)
 
 -- ---- its questions
 
--- 1 to 3, 9, and the rest of its place
+-- 1 to 3, 21, 9, and the rest of its place
 abbrev pub namedAsks : Lent → ℕ → (Address → List Question) → List Question
 namedAsks l oid rest = common l ++ placed (addressOf l oid) rest
 
@@ -172,9 +172,9 @@ pub record Stops (l : Lent) (oid : ℕ) (rest : Address → List Question) (n : 
   pub some : n ≢ 0
 
 placed-stop : (a : Lookup) (rest : Address → List Question) → firstNo (placed a (λ p. [])) ≢ 0 → firstNo (placed a rest) ≡ firstNo (placed a (λ p. []))
-unfolding atPlace
-placed-stop Outside rest z = refl
-placed-stop (Located p) rest z = absurd (z none-asked)
+placed-stop (Located p) rest z = absurd (z (placed-located p (λ q. []) ∙ none-asked))
+placed-stop Gap rest z = placed-gap rest ∙ sym (placed-gap (λ q. []))
+placed-stop Outside rest z = placed-outside rest ∙ sym (placed-outside (λ q. []))
 
 module _ (l : Lent) (oid : ℕ) (rest : Address → List Question) where
   pub common-stops : {n : ℕ} → n ≡ firstNo (common l) → n ≢ 0 → Stops l oid rest n
@@ -187,8 +187,7 @@ module _ (l : Lent) (oid : ℕ) (rest : Address → List Question) where
   }
 
   pub rest-asked : (p : Address) → Found l oid p → firstNo (namedAsks l oid rest) ≡ firstNo (rest p)
-  unfolding atPlace
-  rest-asked p f = common-passed (l .store) (length (l .memory)) (length (l .card)) _ (f .passed) ∙ ap (λ (a : Lookup). firstNo (placed a rest)) (f .place-is)
+  rest-asked p f = common-passed (l .store) (length (l .memory)) (length (l .card)) _ (f .passed) ∙ ap (λ (a : Lookup). firstNo (placed a rest)) (f .place-is) ∙ placed-located p rest
 
 -- the present count of a page
 abbrev pub presentCount : Lent → Address → ℕ

@@ -14,13 +14,14 @@ use native.Mathlib.Omega.{arith}
 use Rattle.card.proofs.AddressLaws.{lies, PlacesApart, Found, here, later, found}
 use Rattle.card.specs.Range.{Range, rangeBlocks, addressIn, locate, allBlocks}
 use Rattle.card.specs.declared.range.Address.{Address}
-use Rattle.card.specs.declared.range.Lookup.{Lookup}
-use Rattle.card.specs.declared.range.Lookup.the-variants.{Located, Outside}
+use Rattle.card.specs.declared.range.Lookup.the-variants.{Located}
 use Rattle.pages.proofs.RowLaws.{flag-after, other-rows}
 use Rattle.pages.specs.Change.{Change, put, empty, writeFrames, changedFrames}
-use Rattle.pages.specs.Needed.{pageIn, pageAt, needed}
+use Rattle.pages.specs.Needed.{frameIn, frameAt, needed}
 use Rattle.pages.specs.Page.{flagged}
 use Rattle.pages.specs.Plain.{Row, rowOf, zeroAfter}
+use Rattle.pages.specs.declared.home.Frame.{Frame}
+use Rattle.pages.specs.declared.home.Frame.the-variants as Frames
 use Rattle.recovery.specs.Book.{applyChanges, Brings}
 use Rattle.recovery.specs.Contents.{Contents}
 
@@ -32,7 +33,7 @@ pub not-false : (t : Bool) → not t ≡ false → t ≡ true
 not-false true h = refl
 not-false false h = absurd (false≢true (sym h))
 
--- ---- the page at a home block
+-- ---- the frame at a home block
 
 -- what a page's block tells: the place is its own, behind its pot, which is no page
 pub record At (rs : List Range) (start hi f : ℕ) (p : Address) : Type 0 where
@@ -41,37 +42,37 @@ pub record At (rs : List Range) (start hi f : ℕ) (p : Address) : Type 0 where
   pub entry-high : p .entry < 102
   pub pot-low : start ≤ p .pot
   pub pot-high : p .pot < hi
-  pub pot-is : pageAt rs start (p .pot) ≡ Outside
+  pub pot-is : frameAt rs start (p .pot) ≡ Frames.Pot
 
-pub in-pot : (start o : ℕ) → o % 103 ≡ 0 → pageIn start o ≡ Outside
-unfolding pageIn
+pub in-pot : (start o : ℕ) → o % 103 ≡ 0 → frameIn start o ≡ Frames.Pot
+unfolding frameIn
 in-pot start o h = rw (eq-eqb (o % 103) 0 h)
 
-pub in-page : (start o : ℕ) → o % 103 ≢ 0 → pageIn start o ≡ Located (record { page = start + o; pot = start + 103 * (o / 103); entry = o % 103 - 1 })
-unfolding pageIn
+pub in-page : (start o : ℕ) → o % 103 ≢ 0 → frameIn start o ≡ Frames.Page (record { page = start + o; pot = start + 103 * (o / 103); entry = o % 103 - 1 })
+unfolding frameIn
 in-page start o h = rw (ne-eqb (o % 103) 0 h)
 
-pub at-here : (r : Range) (rs : List Range) (start f : ℕ) → f < start + rangeBlocks (r .pages) → pageAt (r ∷ rs) start f ≡ pageIn start (f - start)
-unfolding pageAt
+pub at-here : (r : Range) (rs : List Range) (start f : ℕ) → f < start + rangeBlocks (r .pages) → frameAt (r ∷ rs) start f ≡ frameIn start (f - start)
+unfolding frameAt
 at-here r rs start f h = rw (lt-ltb f (start + rangeBlocks (r .pages)) h)
 
-pub at-later : (r : Range) (rs : List Range) (start f : ℕ) → start + rangeBlocks (r .pages) ≤ f → pageAt (r ∷ rs) start f ≡ pageAt rs (start + rangeBlocks (r .pages)) f
-unfolding pageAt
+pub at-later : (r : Range) (rs : List Range) (start f : ℕ) → start + rangeBlocks (r .pages) ≤ f → frameAt (r ∷ rs) start f ≡ frameAt rs (start + rangeBlocks (r .pages)) f
+unfolding frameAt
 at-later r rs start f h = rw (le-ltb f (start + rangeBlocks (r .pages)) h)
 
 -- the same of a list that is given by an equation
-pub list-here : (start f : ℕ) (l : List Range) (r : Range) (rs : List Range) → l ≡ r ∷ rs → f < start + rangeBlocks (r .pages) → pageAt l start f ≡ pageIn start (f - start)
+pub list-here : (start f : ℕ) (l : List Range) (r : Range) (rs : List Range) → l ≡ r ∷ rs → f < start + rangeBlocks (r .pages) → frameAt l start f ≡ frameIn start (f - start)
 list-here start f l r rs e h = rw e (at-here r rs start f h)
 
-pub list-later : (start f : ℕ) (l : List Range) (r : Range) (rs : List Range) → l ≡ r ∷ rs → start + rangeBlocks (r .pages) ≤ f → pageAt l start f ≡ pageAt rs (start + rangeBlocks (r .pages)) f
+pub list-later : (start f : ℕ) (l : List Range) (r : Range) (rs : List Range) → l ≡ r ∷ rs → start + rangeBlocks (r .pages) ≤ f → frameAt l start f ≡ frameAt rs (start + rangeBlocks (r .pages)) f
 list-later start f l r rs e h = rw e (at-later r rs start f h)
 
-pub list-none : (start f : ℕ) (l : List Range) → l ≡ [] → pageAt l start f ≡ Outside
-unfolding pageAt
+pub list-none : (start f : ℕ) (l : List Range) → l ≡ [] → frameAt l start f ≡ Frames.Pot
+unfolding frameAt
 list-none start f l e = rw e
 
 -- the page of number k of a range
-page-of : (start k : ℕ) → pageIn start (start + k + k / 102 + 1 - start) ≡ Located (addressIn start k)
+page-of : (start k : ℕ) → frameIn start (start + k + k / 102 + 1 - start) ≡ Frames.Page (addressIn start k)
 page-of start k =
     let e : start + k + k / 102 + 1 - start ≡ k + k / 102 + 1 = omega arith in
     let run : (k + k / 102 + 1) / 103 ≡ k / 102 = omega arith in
@@ -81,22 +82,22 @@ page-of start k =
     let entry-is : (k + k / 102 + 1) % 103 - 1 ≡ k % 102 = omega (arith, place) in
     let same : _≡_ {A = Address} (record { page = start + (k + k / 102 + 1); pot = start + 103 * ((k + k / 102 + 1) / 103); entry = (k + k / 102 + 1) % 103 - 1 }) (addressIn start k) =
     λ i. record { page = page-is i; pot = pot-is i; entry = entry-is i } in
-    ap (pageIn start) e ∙ in-page start (k + k / 102 + 1) (omega (arith, place)) ∙ ap (λ (p : Address). Located p) same
+    ap (frameIn start) e ∙ in-page start (k + k / 102 + 1) (omega (arith, place)) ∙ ap (λ (p : Address). Frames.Page p) same
 
 -- every page that an OID has is found at its block
-pub page-at : (rs : List Range) (start oid : ℕ) (p : Address) → locate rs start oid ≡ Located p → pageAt rs start (p .page) ≡ Located p
+pub page-at : (rs : List Range) (start oid : ℕ) (p : Address) → locate rs start oid ≡ Located p → frameAt rs start (p .page) ≡ Frames.Page p
 page-at [] start oid p e = let w = lies [] start oid p e in absurd (omega (arith, w .pot-low, w .pot-high))
 page-at (r ∷ rs) start oid p e = go (found r rs start oid p e) (λ q. page-at rs (start + rangeBlocks (r .pages)) oid p q)
   where
-    go : Found r rs start oid p → (locate rs (start + rangeBlocks (r .pages)) oid ≡ Located p → pageAt rs (start + rangeBlocks (r .pages)) (p .page) ≡ Located p) → pageAt (r ∷ rs) start (p .page) ≡ Located p
+    go : Found r rs start oid p → (locate rs (start + rangeBlocks (r .pages)) oid ≡ Located p → frameAt rs (start + rangeBlocks (r .pages)) (p .page) ≡ Frames.Page p) → frameAt (r ∷ rs) start (p .page) ≡ Frames.Page p
     go (here l h q) rec = rw (← q) (at-here r rs start _ (omega arith) ∙ page-of start (oid - r .oid))
     go (later q) rec = at-later r rs start (p .page) (lies rs (start + rangeBlocks (r .pages)) oid p q .page-low) ∙ rec q
 
-no-page : {A : Type 0} {p : Address} → Outside ≡ Located p → A
+no-page : {A : Type 0} {p : Address} → Frames.Pot ≡ Frames.Page p → A
 no-page e = let z : _≡_ {A = ℕ} 0 1 = cc in absurd (omega arith)
 
 -- in the first range
-first-tells : (r : Range) (rs : List Range) (start f : ℕ) (p : Address) → f < start + rangeBlocks (r .pages) → pageIn start (f - start) ≡ Located p → At (r ∷ rs) start (start + rangeBlocks (r .pages)) f p
+first-tells : (r : Range) (rs : List Range) (start f : ℕ) (p : Address) → f < start + rangeBlocks (r .pages) → frameIn start (f - start) ≡ Frames.Page p → At (r ∷ rs) start (start + rangeBlocks (r .pages)) f p
 first-tells r rs start f p h e = go (ℕ-discrete ((f - start) % 103) 0)
   where
     go : Dec ((f - start) % 103 ≡ 0) → At (r ∷ rs) start (start + rangeBlocks (r .pages)) f p
@@ -114,8 +115,8 @@ first-tells r rs start f p h e = go (ℕ-discrete ((f - start) % 103) 0)
           pot-is = at-here r rs start (start + 103 * ((f - start) / 103)) (omega arith) ∙ in-pot start _ (omega arith);
         })
 
-pub at-tells : (rs : List Range) (start f : ℕ) (p : Address) → pageAt rs start f ≡ Located p → At rs start (start + allBlocks rs) f p
-unfolding pageAt
+pub at-tells : (rs : List Range) (start f : ℕ) (p : Address) → frameAt rs start f ≡ Frames.Page p → At rs start (start + allBlocks rs) f p
+unfolding frameAt
 at-tells [] start f p = λ e. no-page e
 at-tells (r ∷ rs) start f p = go (ltb f (start + rangeBlocks (r .pages))) refl (at-tells rs (start + rangeBlocks (r .pages)) f p)
   where
@@ -126,8 +127,8 @@ at-tells (r ∷ rs) start f p = go (ltb f (start + rangeBlocks (r .pages))) refl
     wider t = record { page-is = t .page-is; behind = t .behind; entry-high = t .entry-high; pot-low = t .pot-low; pot-high = omega (arith, t .pot-high); pot-is = t .pot-is }
 
     go : (t : Bool) → ltb f (start + rangeBlocks (r .pages)) ≡ t
-        → (pageAt rs (start + rangeBlocks (r .pages)) f ≡ Located p → At rs (start + rangeBlocks (r .pages)) (start + rangeBlocks (r .pages) + allBlocks rs) f p)
-        → cond t (pageIn start (f - start)) (pageAt rs (start + rangeBlocks (r .pages)) f) ≡ Located p → At (r ∷ rs) start (start + (rangeBlocks (r .pages) + allBlocks rs)) f p
+        → (frameAt rs (start + rangeBlocks (r .pages)) f ≡ Frames.Page p → At rs (start + rangeBlocks (r .pages)) (start + rangeBlocks (r .pages) + allBlocks rs) f p)
+        → cond t (frameIn start (f - start)) (frameAt rs (start + rangeBlocks (r .pages)) f) ≡ Frames.Page p → At (r ∷ rs) start (start + (rangeBlocks (r .pages) + allBlocks rs)) f p
     go true h rec e = wider (first-tells r rs start f p (ltb-true _ _ h) e)
     go false h rec e =
         let t = rec e in
@@ -137,12 +138,12 @@ at-tells (r ∷ rs) start f p = go (ltb f (start + rangeBlocks (r .pages))) refl
 
 module _ (rs : List Range) (area blocks : ℕ) (full : blocks ≡ 1 + area + allBlocks rs) where
   -- a pot is
-  pub pot-needed : (v : Contents) (f : ℕ) → pageAt rs (1 + area) f ≡ Outside → needed rs area v f ≡ true
+  pub pot-needed : (v : Contents) (f : ℕ) → frameAt rs (1 + area) f ≡ Frames.Pot → needed rs area v f ≡ true
   unfolding needed
   pot-needed v f e = rw e
 
   -- a page is unless its flag is set
-  pub page-needed : (v : Contents) (f : ℕ) (p : Address) → pageAt rs (1 + area) f ≡ Located p → needed rs area v f ≡ not (flagged v p)
+  pub page-needed : (v : Contents) (f : ℕ) (p : Address) → frameAt rs (1 + area) f ≡ Frames.Page p → needed rs area v f ≡ not (flagged v p)
   unfolding needed
   page-needed v f p e = rw e
 
@@ -154,41 +155,41 @@ module _ (rs : List Range) (area blocks : ℕ) (full : blocks ≡ 1 + area + all
 
   -- THE LAW: contents that agree where the second ones are needed agree on what is needed
   pub needed-same : (u v : Contents) → ((f : ℕ) → area < f → f < blocks → needed rs area v f ≡ true → u f ≡ v f) → (f : ℕ) → needed rs area u f ≡ needed rs area v f
-  needed-same u v h f = go (pageAt rs (1 + area) f) refl
+  needed-same u v h f = go (frameAt rs (1 + area) f) refl
     where
-      go : (x : Lookup) → pageAt rs (1 + area) f ≡ x → needed rs area u f ≡ needed rs area v f
-      go Outside e = pot-needed u f e ∙ sym (pot-needed v f e)
-      go (Located p) e =
+      go : (x : Frame) → frameAt rs (1 + area) f ≡ x → needed rs area u f ≡ needed rs area v f
+      go Frames.Pot e = pot-needed u f e ∙ sym (pot-needed v f e)
+      go (Frames.Page p) e =
           let t = at-tells rs (1 + area) f p e in
           let pot-same : u (p .pot) ≡ v (p .pot) = h (p .pot) (omega (arith, t .pot-low)) (omega (arith, t .pot-high, full)) (pot-needed v (p .pot) (t .pot-is)) in
           page-needed u f p e ∙ (rw pot-same refl) ∙ sym (page-needed v f p e)
 
   -- two pages
-  pub apart : (p q : Address) → pageAt rs (1 + area) (p .page) ≡ Located p → pageAt rs (1 + area) (q .page) ≡ Located q → p .page ≢ q .page → PlacesApart p q
+  pub apart : (p q : Address) → frameAt rs (1 + area) (p .page) ≡ Frames.Page p → frameAt rs (1 + area) (q .page) ≡ Frames.Page q → p .page ≢ q .page → PlacesApart p q
   apart p q e f d =
       let s = at-tells rs (1 + area) (p .page) p e in
       let t = at-tells rs (1 + area) (q .page) q f in
       record {
         pages = d;
-        page-pot = λ k. no-page (sym (t .pot-is) ∙ ap (pageAt rs (1 + area)) (sym k) ∙ e);
-        pot-page = λ k. no-page (sym (s .pot-is) ∙ ap (pageAt rs (1 + area)) k ∙ f);
+        page-pot = λ k. no-page (sym (t .pot-is) ∙ ap (frameAt rs (1 + area)) (sym k) ∙ e);
+        pot-page = λ k. no-page (sym (s .pot-is) ∙ ap (frameAt rs (1 + area)) k ∙ f);
         entries = λ k m. d (omega (arith, s .behind, t .behind));
       }
 
-  module _ (v : Contents) (p : Address) (at-p : pageAt rs (1 + area) (p .page) ≡ Located p) (two : p .page ≢ p .pot) (long : length (v (p .pot)) ≡ 512) (high : p .entry < 102) where
+  module _ (v : Contents) (p : Address) (at-p : frameAt rs (1 + area) (p .page) ≡ Frames.Page p) (two : p .page ≢ p .pot) (long : length (v (p .pot)) ≡ 512) (high : p .entry < 102) where
     flag-of : (u : Contents) (q : Address) → rowOf u q ≡ rowOf v q → flagged u q ≡ flagged v q
     unfolding rowOf
     flag-of u q e = ap (λ (r : Row). r .zero) e
 
     -- other pages are needed as before
     others : (u : Contents) → ((q : Address) → PlacesApart p q → rowOf u q ≡ rowOf v q) → (f : ℕ) → f ≢ p .page → needed rs area u f ≡ true → needed rs area v f ≡ true
-    others u same f d t = go (pageAt rs (1 + area) f) refl
+    others u same f d t = go (frameAt rs (1 + area) f) refl
       where
-        go : (x : Lookup) → pageAt rs (1 + area) f ≡ x → needed rs area v f ≡ true
-        go Outside e = pot-needed v f e
-        go (Located q) e =
+        go : (x : Frame) → frameAt rs (1 + area) f ≡ x → needed rs area v f ≡ true
+        go Frames.Pot e = pot-needed v f e
+        go (Frames.Page q) e =
             let page-is : q .page ≡ f = at-tells rs (1 + area) f q e .page-is in
-            let at-q : pageAt rs (1 + area) (q .page) ≡ Located q = ap (pageAt rs (1 + area)) page-is ∙ e in
+            let at-q : frameAt rs (1 + area) (q .page) ≡ Frames.Page q = ap (frameAt rs (1 + area)) page-is ∙ e in
             let away : PlacesApart p q = apart p q at-p at-q (λ k. d (sym (k ∙ page-is))) in
             page-needed v f q e ∙ ap not (sym (flag-of u q (same q away))) ∙ sym (page-needed u f q e) ∙ t
 
@@ -201,5 +202,5 @@ module _ (rs : List Range) (area blocks : ℕ) (full : blocks ≡ 1 + area + all
         flag-set = unfold zeroAfter in (flag-after v p two long high empty)
 
         go : Dec (f ≡ p .page) → needed rs area v f ≡ true
-        go (yes e) = absurd (false≢true (ap not (sym flag-set) ∙ sym (page-needed (applyChanges (changedFrames empty v p) v) f p (ap (pageAt rs (1 + area)) e ∙ at-p)) ∙ t))
+        go (yes e) = absurd (false≢true (ap not (sym flag-set) ∙ sym (page-needed (applyChanges (changedFrames empty v p) v) f p (ap (frameAt rs (1 + area)) e ∙ at-p)) ∙ t))
         go (no d) = others _ (other-rows v p two long high empty) f d t

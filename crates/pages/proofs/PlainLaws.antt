@@ -15,10 +15,10 @@ use Rattle.card.specs.Question.{Question, firstNo}
 use Rattle.card.specs.Range.{Range, allBlocks}
 use Rattle.card.specs.declared.range.Address.{Address}
 use Rattle.card.specs.declared.range.Lookup.{Lookup}
-use Rattle.card.specs.declared.range.Lookup.the-variants.{Located, Outside}
+use Rattle.card.specs.declared.range.Lookup.the-variants.{Located, Gap, Outside}
 use Rattle.frames.proofs.Run.{told, Asked}
 use Rattle.frames.specs.Promise.{Lent, meaningOf, common, FrameCall, past}
-use Rattle.pages.proofs.AnswerLaws.{Later, ownAsks, asks-numbered, on-passed}
+use Rattle.pages.proofs.AnswerLaws.{Later, ownAsks, placed-located, placed-gap, placed-outside, asks-numbered, on-passed}
 use Rattle.pages.proofs.BlankLaws.{blank-change, blank-snapshot, blank-pageOut, blank-kind}
 use Rattle.pages.proofs.CanLaws.{passed-can, edits-apart}
 use Rattle.pages.proofs.EditLaws.{placeOn, SameRows, Long, changes-long, Alike, page-alike, CanAll, Made, frames-more, edits-made}
@@ -55,9 +55,9 @@ begun-same ps qs rs numbered h = go (ℕ-discrete (firstNo ps) 0)
     go (no z) = group-no ps qs z ∙ sym (group-no ps rs z)
 
 placed-same : (a : Lookup) (f h : Address → List Question) → ((p : Address) → a ≡ Located p → firstNo (f p) ≡ firstNo (h p)) → firstNo (placed a f) ≡ firstNo (placed a h)
-unfolding atPlace
-placed-same Outside f h e = refl
-placed-same (Located p) f h e = e p refl
+placed-same (Located p) f h e = placed-located p f ∙ e p refl ∙ sym (placed-located p h)
+placed-same Gap f h e = placed-gap f ∙ sym (placed-gap h)
+placed-same Outside f h e = placed-outside f ∙ sym (placed-outside h)
 
 -- of a row, the machine asks and answers as the promise does of its page
 asks-same : (c : PageCall) (r : Row) → pageAsks c (r .page) ≡ rowAsks c r

@@ -15,7 +15,7 @@ use Rattle.card.specs.Question.{firstNo, headerRanges}
 use Rattle.card.specs.Range.{Range, allBlocks}
 use Rattle.card.specs.declared.range.Address.{Address}
 use Rattle.card.specs.declared.range.Lookup.{Lookup}
-use Rattle.card.specs.declared.range.Lookup.the-variants.{Located, Outside}
+use Rattle.card.specs.declared.range.Lookup.the-variants.{Located, Gap, Outside}
 use Rattle.frames.proofs.KeepLaws as keep
 use Rattle.frames.proofs.ReadyLaws.{has-frames, no-zeros}
 use Rattle.frames.proofs.Recovery.{frames-present, frames-hold, frames-committed}
@@ -64,6 +64,7 @@ same-flush (frames.wrote flush n) o v = refl
 
 at-place : (other : Answer) (a : Lookup) (f : Address → Answer) → isFlush other ≡ false → ((p : Address) → isFlush (f p) ≡ false) → isFlush (atPlace other a f) ≡ false
 unfolding atPlace
+at-place other Gap f h k = h
 at-place other Outside f h k = h
 at-place other (Located p) f h k = k p
 

@@ -36,7 +36,7 @@ pub data Answer : Type 0 where
 
 -- ---- the calls on one page
 
--- what each is asked of the page, after 9 and before 12 to 14
+-- what each is asked of the page, after 21 and 9 and before 12 to 14
 unfoldable pub pageAsks : PageCall → Page → List Question
 pageAsks key x = []
 pageAsks (read n b) x = ask 10 (eqb (x .count) n) ∷ ask 11 (eqb (length b) 512) ∷ []

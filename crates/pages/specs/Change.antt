@@ -9,7 +9,7 @@ use Rattle.card.specs.Bytes.{patch, zeros}
 use Rattle.card.specs.Pot.{countAt, flagsAt, putCount, putFlags, setZero, clearZero}
 use Rattle.card.specs.declared.range.Address.{Address}
 use Rattle.card.specs.declared.range.Lookup.{Lookup}
-use Rattle.card.specs.declared.range.Lookup.the-variants.{Located, Outside}
+use Rattle.card.specs.declared.range.Lookup.the-variants.{Located, Gap, Outside}
 use Rattle.pages.specs.Page.{Page, flagged, pageBytes}
 use Rattle.recovery.specs.Book.{applyChanges}
 use Rattle.recovery.specs.Contents.{Contents, FrameBytes}
@@ -64,6 +64,7 @@ changedFrames empty v p = record { frame = p .pot; bytes = rescindPot (v (p .pot
 
 -- what is made of an OID's place
 unfoldable pub atPlace : {A : Type 0} → A → Lookup → (Address → A) → A
+atPlace other Gap f = other
 atPlace other Outside f = other
 atPlace other (Located p) f = f p
 

@@ -1,7 +1,7 @@
 -- The plain machine of demand 2: tables of pages and counts, and a ledger of numbers. It begins with what a start
 -- shows; after that it sees no card, no memory and no record.
 --
--- It shares with the calls, of pages: the place of an OID (question 9), which changes a call makes (Call: edits), the
+-- It shares with the calls, of pages: the place of an OID (questions 21 and 9), which changes a call makes (Call: edits), the
 -- frames behind them (Change: editFrames), and the form of a refusal. Of generations (recovery's Step, here without
 -- bytes): what a change, a snapshot, a page-out and each kind of advance make of them, which entry M copies next, where
 -- the trailer stands, the blocks of directory and trailer, and which kinds write a block. Of the card: the ring, and how
@@ -129,7 +129,7 @@ plainOver t f = not (needed (t .ledger .ranges) (t .ledger .area) (t .frames .ke
 abbrev pub plainPast : Plain → Plain
 plainPast t = record { rows = t .rows; changed = t .changed; phase = t .phase; ledger = passTo (passedTo (plainOver t) (ledgerOf t)) (t .ledger); frames = t .frames }
 
--- ---- questions: 9 by the ranges, 10, 11, 15 and k by the rows, 12 to 14 and 20 by sums over the ledger, 16 to 19
+-- ---- questions: 21 and 9 by the ranges, 10, 11, 15 and k by the rows, 12 to 14 and 20 by sums over the ledger, 16 to 19
 -- and 28 by what is marked, changed, committed, waiting and flushed; never 1, 2 or 3
 
 abbrev pub isNone : Option Contents → Bool

@@ -3,7 +3,7 @@
 use Prim.Native.Nat.{ℕ, _+_, _/_, _%_, _<_}
 use lib.Dec.{eqb}
 use lib.ListN.{length}
-use mathlib.Core.Bool.{Bool, false, cond, not, _&&_}
+use mathlib.Core.Bool.{Bool, true, false, cond, not, _&&_}
 use mathlib.Core.List.{List, [], _∷_, _++_}
 use mathlib.Core.Path.{_≡_}
 use Rattle.card.specs.Block.{whole}
@@ -11,7 +11,7 @@ use Rattle.card.specs.Question.{Question, ask, firstNo}
 use Rattle.card.specs.Range.{Range, rangesOf, geometryFits, locate}
 use Rattle.card.specs.declared.range.Address.{Address}
 use Rattle.card.specs.declared.range.Lookup.{Lookup}
-use Rattle.card.specs.declared.range.Lookup.the-variants.{Located}
+use Rattle.card.specs.declared.range.Lookup.the-variants.{Located, Gap, Outside}
 use Rattle.frames.specs.Parts.{CommittedParts, Readable}
 use Rattle.frames.specs.Promise as frames
 use Rattle.frames.specs.Promise.{Lent, meaningOf, common, Outcome, outcomeOf, Keeps, FrameCall, FrameAnswer, numbered, past}
@@ -76,9 +76,19 @@ callFrames o c l = editFrames (addressOf l) (edits o c) (presentFrames l)
 
 -- ---- questions
 
--- 9, then the rest
-abbrev pub placed : Lookup → (Address → List Question) → List Question
-placed a rest = atPlace (ask 9 false ∷ []) a rest
+-- 21: does the OID lie in no gap between two ranges? 9: is it neither below the first nor above the last? Then the rest
+abbrev pub isGap : Lookup → Bool
+isGap (Located p) = false
+isGap Gap = true
+isGap Outside = false
+
+abbrev pub isOutside : Lookup → Bool
+isOutside (Located p) = false
+isOutside Gap = false
+isOutside Outside = true
+
+unfoldable pub placed : Lookup → (Address → List Question) → List Question
+placed a rest = ask 21 (not (isGap a)) ∷ ask 9 (not (isOutside a)) ∷ atPlace [] a rest
 
 -- document 01's questions, in its order; 12 to 14 once over all frames that a call changes: one that changes none passes
 -- them
@@ -101,7 +111,7 @@ frameCall pageOut l = frames.pageOut
 frameCall advance l = frames.advance (passedOf l)
 frameCall forecast l = frames.change []
 
--- what it answers where it is done (without a place, 9 has refused it), and where it is refused
+-- what it answers where it is done (without a place, 21 or 9 has refused it), and where it is refused
 unfoldable pub doneAnswer : Call → Lent → Answer
 doneAnswer (start m) l = done
 doneAnswer (on o c) l = atPlace (pageRefusal c 9) (addressOf l o) (λ p. pageAnswer c (presentPage l p))
@@ -169,7 +179,8 @@ pub record OverAsked (g : Geometry) (first : ℕ) (frames places : List ℕ) (co
 abbrev pub OverBy : Geometry → ℕ → List ℕ → List ℕ → ℕ → List ℕ → ℕ → Bool → Type 0
 OverBy g first frames places count card f r = (s : Store) → g ≡ s .geometry → CommittedParts s (g .area) first frames places count → Readable s card → OverIs s card f r
 
--- a page that a call names by its OID: question 9's number, or 0 and its place. Its entry is one of a pot's in any case
+-- a page that a call names by its OID: the number of question 21 or 9, or 0 and its place. Its entry is one of a pot's in
+-- any case
 pub record NamedIs (g : Geometry) (oid : ℕ) (r : Named) : Type 0 where
   pub refusal-is : r .refusal ≡ firstNo (placed (placeIn g oid) (λ p. []))
   pub place-is : r .refusal ≡ 0 → placeIn g oid ≡ Located (r .address)

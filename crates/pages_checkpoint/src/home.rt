@@ -1,12 +1,12 @@
-// The page at a home block, and how many committed entries are home or passed over, or to be copied: migration copies
+// The frame at a home block, and how many committed entries are home or passed over, or to be copied: migration copies
 // no page whose flag is set in the committed generation's view of its pot.
 use card::range::Address;
-use card::range::Lookup;
 use card_blocks::number;
 use card_places::range;
 use frames_advance::advance;
 use frames_load::forecast;
 use frames_load::load;
+use pages::home::Frame;
 use pages_read::named;
 use record::store::Geometry;
 use record::store::Store;
@@ -16,30 +16,30 @@ ghost use mathlib.Core.Path.{_≡_};
 ghost use Prim.Native.Nat.{_+_, _≤_, _<_};
 ghost use Rattle.card.specs.Range.{rangesOf};
 ghost use Rattle.frames.specs.Parts.{Readable, MigratingIs};
-ghost use Rattle.pages.specs.Needed.{pageIn, pageAt};
+ghost use Rattle.pages.specs.Needed.{frameIn, frameAt};
 ghost use Rattle.pages.specs.Promise.{OverAsked, OverBy, PassedIs, MovesIs};
 
 // Block o of a range whose first block is start.
-fn page_in(start: usize, o: usize) -> Lookup
+fn frame_in(start: usize, o: usize) -> Frame
     requires { ⌜ (start ≤ 65536) × (o ≤ 65536) ⌝ }
-    ensures { λ r. ⌜ r ≡ pageIn start o ⌝ }
+    ensures { λ r. ⌜ r ≡ frameIn start o ⌝ }
 {
     let place = o % 103;
     if place == 0 {
-        return Lookup::Outside;
+        return Frame::Pot;
     }
     let address = Address {
         page: start + o,
         pot: start + 103 * (o / 103),
         entry: place - 1,
     };
-    Lookup::Located(address)
+    Frame::Page(address)
 }
 
-// The place of the page whose home block is f.
-fn page_at(area: usize, numbers: &[u32; 16], count: usize, f: usize) -> Lookup
+// The frame whose home block is f.
+fn frame_at(area: usize, numbers: &[u32; 16], count: usize, f: usize) -> Frame
     requires { ⌜ (area ≤ 512) × ((count ≤ 8) × ((area < f) × (f ≤ 65536))) ⌝ }
-    ensures { λ r. ⌜ r ≡ pageAt (rangesOf (now (numbers .entry)) count) (1 + area) f ⌝ }
+    ensures { λ r. ⌜ r ≡ frameAt (rangesOf (now (numbers .entry)) count) (1 + area) f ⌝ }
 {
     let mut start = 1 + area;
     let mut i = 0;
@@ -47,12 +47,12 @@ fn page_at(area: usize, numbers: &[u32; 16], count: usize, f: usize) -> Lookup
         let pages = number::wide(numbers[2 * i + 1]);
         let next = start + range::blocks(pages);
         if f < next {
-            return page_in(start, f - start);
+            return frame_in(start, f - start);
         }
         start = next;
         i += 1;
     }
-    Lookup::Outside
+    Frame::Pot
 }
 
 // Does migration pass over a frame? By the parts of the record that are looked at, as `load::committed`.
@@ -68,12 +68,12 @@ fn is_over(
     requires { ⌜ OverAsked g first (now frames) (now places) count (now card) f ⌝ }
     ensures { λ r. ⌜ OverBy g first (now (frames .entry)) (now (places .entry)) count (now (card .entry)) f r ⌝ }
 {
-    match page_at(g.area, &g.ranges, g.count, f) {
-        Lookup::Located(address) => {
+    match frame_at(g.area, &g.ranges, g.count, f) {
+        Frame::Page(address) => {
             let pot = load::committed(g.area, first, frames, places, count, card, address.pot);
             named::is_zero(pot, address.entry)
         },
-        Lookup::Outside => false,
+        Frame::Pot => false,
     }
 }
 

@@ -1,4 +1,4 @@
-// The page that a call names: its place (question 9), question 10 with the one that is asked behind it, 11 or 15, and
+// The page that a call names: its place (questions 21 and 9), question 10 with the one that is asked behind it, 11 or 15, and
 // its zero flag.
 use card::range::Address;
 use card::range::Lookup;
@@ -29,7 +29,7 @@ fn refused(no: u32) -> Named
     }
 }
 
-// Its place by its OID: 9.
+// Its place by its OID: 21, 9.
 pub fn find(g: Geometry, oid: u32) -> Named
     requires { ⌜ (g .area ≤ 512) × (g .count ≤ 8) ⌝ }
     ensures { λ r. ⌜ NamedIs g oid r ⌝ }
@@ -39,6 +39,7 @@ pub fn find(g: Geometry, oid: u32) -> Named
             refusal: 0,
             address: address,
         },
+        Lookup::Gap => refused(21),
         Lookup::Outside => refused(9),
     }
 }

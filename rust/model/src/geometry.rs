@@ -1,5 +1,7 @@
 //! The card's geometry: header, checkpoint area, home ranges.
 
+use crate::Refusal;
+
 /// Bytes of a block, a page, a pot and a memory frame.
 pub const BLOCK: usize = 512;
 /// Pages of one allocation pot.
@@ -133,18 +135,31 @@ impl Geometry {
         placed
     }
 
-    /// Question 9: is the OID in a range, and then where?
-    pub fn place(&self, oid: u32) -> Option<Place> {
-        let (block, range) = self
-            .placed_ranges()
-            .into_iter()
-            .find(|(_, range)| range.first <= oid && u64::from(oid) < range.end())?;
+    /// Questions 21 and 9: is the OID in a range, and then where?
+    pub fn place(&self, oid: u32) -> Result<Place, Refusal> {
+        let holds = |range: &Range| range.first <= oid && u64::from(oid) < range.end();
+        let mut placed = self.placed_ranges().into_iter();
+        let (block, range) = placed
+            .find(|(_, range)| holds(range))
+            .ok_or_else(|| self.missing(oid))?;
         let r = (oid - range.first) as usize;
-        Some(Place {
+        Ok(Place {
             page: block + r + r / RUN + 1,
             pot: block + 103 * (r / RUN),
             at: 5 * (r % RUN),
         })
+    }
+
+    /// Of an OID in no range: 21 between two ranges, 9 below the first or above
+    /// the last.
+    fn missing(&self, oid: u32) -> Refusal {
+        let mut neighbours = self.ranges.windows(2);
+        let between = neighbours.any(|pair| pair[0].end() <= oid.into() && oid < pair[1].first);
+        if between {
+            21
+        } else {
+            9
+        }
     }
 
     /// The place of the page that is home at that block, if it is no pot.

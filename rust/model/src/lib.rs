@@ -1,6 +1,6 @@
 //! A plain model of the lane page store, to be read beside document 01 and
-//! what document 02 says of the forecast (#102), of empty pages (#104) and of
-//! flushes (#110).
+//! what document 02 says of gaps (#101), of the forecast (#102), of empty pages
+//! (#104) and of flushes (#110).
 //!
 //! It is slow and simple on purpose: vectors, a map, and each sentence of the
 //! documents where one looks for it. It has its own card, and each call answers

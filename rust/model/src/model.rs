@@ -84,15 +84,15 @@ impl Model {
         Ok((store, &mut self.card))
     }
 
-    /// Questions 1 to 3 and 9.
+    /// Questions 1 to 3, 21 and 9.
     fn pot(&self, lent: Lent, oid: u32) -> Result<Pot, Refusal> {
         let store = self.asked(lent)?;
-        let place = store.geometry.place(oid).ok_or(9u32)?;
+        let place = store.geometry.place(oid)?;
         let bytes = store.newest(&self.card, place.pot);
         Ok(Pot { place, bytes })
     }
 
-    /// Questions 1 to 3, 9 and 10.
+    /// Questions 1 to 3, 21, 9 and 10.
     fn pot_for_key(&self, lent: Lent, oid: u32, count: u32) -> Result<Pot, Refusal> {
         let pot = self.pot(lent, oid)?;
         if pot.count() != count {

@@ -35,6 +35,28 @@ fn places_of_a_to_c() {
     assert_eq!(into_range(102), (104, 103));
 }
 
+/// OIDs in no range: 21 between two ranges, 9 below the first and above the
+/// last. Ranges that touch have nothing between them.
+#[test]
+fn gaps_and_ends() {
+    let answers = |numbers: &[u32], oids: std::ops::RangeInclusive<u32>| -> Vec<u32> {
+        let pages = numbers.chunks(2).map(|pair| pair[1] as usize + 1);
+        let blocks = 9 + pages.sum::<usize>();
+        let geometry = Geometry::new(blocks, 8, numbers).expect("the ranges fill the card");
+        oids.map(|oid| geometry.place(oid).err().unwrap_or(0))
+            .collect()
+    };
+    let apart = answers(&[10, 5, 20, 5], 9..=25);
+    assert_eq!(apart, [&[9][..], &[0; 5], &[21; 5], &[0; 5], &[9]].concat());
+    let touching = answers(&[10, 5, 15, 5], 9..=20);
+    assert_eq!(touching, [&[9][..], &[0; 10], &[9]].concat());
+    let three = answers(&[10, 1, 11, 1, 13, 1], 9..=14);
+    assert_eq!(three, [9, 0, 0, 21, 0, 9]);
+    let ends = answers(&[0, 1, u32::MAX, 1], 0..=2);
+    assert_eq!(ends, [0, 21, 21]);
+    assert_eq!(answers(&[1, 1], u32::MAX..=u32::MAX), [9]);
+}
+
 /// Each home block is a pot or the page of one OID.
 #[test]
 fn pages_at_blocks() {

@@ -161,7 +161,7 @@ impl Empties {
 
     /// A rescind changes the pot, so the page is still where it was.
     fn count_rescind(&mut self, oid: u32, model: &Model, store: &Store) {
-        let Some(Place { page, .. }) = store.geometry.place(oid) else {
+        let Ok(Place { page, .. }) = store.geometry.place(oid) else {
             return;
         };
         let waits = store.current.waiting_bytes(page).is_some();
@@ -241,7 +241,7 @@ impl Empties {
     /// at home would have been seen.
     pub fn count_found(&mut self, oid: u32, model: &Model, home: &Home) {
         let store = model.store.as_ref();
-        let place = store.and_then(|store| store.geometry.place(oid));
+        let place = store.and_then(|store| store.geometry.place(oid).ok());
         let (Some(store), Some(place)) = (store, place) else {
             return;
         };

@@ -1,6 +1,7 @@
 //! Trials of the proved library: doctored records and cards, and random lists
 //! of calls and cuts against the model and the book.
 
+mod borders;
 mod call;
 mod cards;
 mod cuts;
@@ -123,7 +124,11 @@ fn print_summary(options: &Options, lists: &Tally, doctored: &Tally, begun: Inst
     );
     let (limits, cuts) = (lists.limits.table(), lists.cuts.table());
     let (directories, empties) = (lists.directories.table(), lists.empties.lists_table());
-    print!("{}{limits}{cuts}{directories}{empties}", lists.table());
+    let borders = lists.borders.table();
+    print!(
+        "{}{borders}{limits}{cuts}{directories}{empties}",
+        lists.table()
+    );
     print!("{}", lists.forecasts.lists_table());
     println!(
         "{} doctored records, {} sentences of question 2 broken, {} doctored cards, \

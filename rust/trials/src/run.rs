@@ -257,7 +257,7 @@ impl<L: Library, R: Reference> Trial<'_, L, R> {
         let Some(store) = &self.reference.model().store else {
             return Err("the reference has not started".into());
         };
-        let Some(place) = store.geometry.place(oid) else {
+        let Ok(place) = store.geometry.place(oid) else {
             return Ok(());
         };
         let page = get(&self.stock.card, store.kept_block(place.page));

@@ -1,5 +1,6 @@
 //! How often each number was answered by each call.
 
+use crate::borders::Borders;
 use crate::call::{Answer, Call, NAMES};
 use crate::cuts::Cuts;
 use crate::directories::Directories;
@@ -10,16 +11,17 @@ use crate::limits::Limits;
 use model::Kind;
 use std::collections::BTreeSet;
 
-/// The numbers each call can answer, in the order of `Call::row`.
+/// The numbers each call can answer, in the order that they are asked in; the
+/// calls in that of `Call::row`.
 const POSSIBLE: [&[u32]; 10] = [
     &[0, 3, 5],
     &[0, 1, 3, 4, 5, 6, 7, 8],
-    &[0, 1, 2, 3, 9],
-    &[0, 1, 2, 3, 9, 10, 11],
-    &[0, 1, 2, 3, 9, 10, 11, 12, 13, 14],
-    &[0, 1, 2, 3, 9, 10, 12, 13, 14, 15],
+    &[0, 1, 2, 3, 21, 9],
+    &[0, 1, 2, 3, 21, 9, 10, 11],
+    &[0, 1, 2, 3, 21, 9, 10, 11, 12, 13, 14],
+    &[0, 1, 2, 3, 21, 9, 10, 15, 12, 13, 14],
     &[0, 1, 2, 3, 16, 17, 18],
-    &[0, 1, 2, 3, 19, 28],
+    &[0, 1, 2, 3, 28, 19],
     &[0, 1, 2, 3, 20],
     &[0, 1, 2, 3],
 ];
@@ -39,6 +41,7 @@ pub struct Tally {
     pub fullest: usize,
     pub lists: u64,
     pub cuts: Cuts,
+    pub borders: Borders,
     pub limits: Limits,
     pub directories: Directories,
     pub empties: Empties,
@@ -93,6 +96,7 @@ impl Tally {
         self.fullest = self.fullest.max(other.fullest);
         self.lists += other.lists;
         self.cuts.add(&other.cuts);
+        self.borders.add(&other.borders);
         self.limits.add(&other.limits);
         self.directories.add(&other.directories);
         self.empties.add(&other.empties);
@@ -117,6 +121,7 @@ impl Tally {
         for frames in [4, 64].iter().filter(|n| !self.frames.contains(n)) {
             missing.push(format!("a memory of {frames} frames"));
         }
+        missing.extend(self.borders.missing());
         missing.extend(self.limits.missing());
         missing.extend(self.directories.missing());
         missing.extend(self.cuts.missing());

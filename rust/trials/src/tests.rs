@@ -6,6 +6,7 @@ mod faulty;
 mod forecasts;
 mod runs;
 
+use crate::borders::BORDERS;
 use crate::call::Call;
 use crate::cards::Size;
 use crate::doctored::form::{COMMITTED, CURRENT, PENDING};
@@ -256,6 +257,15 @@ fn entry_missed_at_an_end_of_the_directory() {
     }
 }
 
+#[test]
+fn numbers_at_the_borders_of_ranges() {
+    for row in 0..BORDERS.len() {
+        let fault = Fault::Border { row };
+        let steps = caught(|list| fails(fault, Model::new(Vec::new()), list));
+        assert!(steps.len() <= 1);
+    }
+}
+
 /// For each row of `LIMITS`, the row of the same limit kept.
 const KEPT: [usize; 8] = [1, 1, 2, 2, 5, 5, 6, 6];
 
@@ -396,6 +406,7 @@ fn what_was_never_seen_is_told() {
     assert!(!told("a cut in H that leaves torn"));
     assert!(told("a card of 65,536 blocks"));
     assert!(told("a memory of 64 frames"));
+    assert!(told("rescind of an OID first in a gap"));
     assert!(told("format 0 of A 512 on a card filled exactly"));
     assert!(told("start 5 of 9 ranges on a card filled exactly"));
     assert!(told("a generation of 251 entries refused one change more"));

@@ -151,7 +151,7 @@ impl<'t, L: Library, R: Reference> Trial<'t, L, R> {
         self.compare_memory(call, &exchange.answer, lent)?;
         self.note_sizes(call, &exchange.answer, lent);
         self.note_empties(call, &exchange.answer, amid);
-        self.note_directories(call, &exchange.answer, &entries);
+        self.note_store(call, &exchange.answer, &entries);
         let whole =
             matches!(call, Call::Format { .. } | Call::Start) || self.made.is_multiple_of(32);
         if whole || self.geometry.blocks <= COMPARED_WHOLE {
@@ -202,9 +202,11 @@ impl<'t, L: Library, R: Reference> Trial<'t, L, R> {
         }
     }
 
-    /// `before` is the current directory before a change.
-    fn note_directories(&mut self, call: &Call, answer: &Answer, before: &[Entry]) {
+    /// Where the call came to among ranges and in directories; `before` is the
+    /// current one before a change.
+    fn note_store(&mut self, call: &Call, answer: &Answer, before: &[Entry]) {
         if let Some(store) = &self.reference.model().store {
+            self.tally.borders.count_made(call, answer, store);
             let directories = &mut self.tally.directories;
             directories.count_made(call, answer, before, store);
         }
@@ -402,7 +404,7 @@ impl<'t, L: Library, R: Reference> Trial<'t, L, R> {
     fn named_oids(&self, rng: &mut Rng) -> Vec<u32> {
         let named = self.named.iter().copied();
         let mut oids: Vec<u32> = named
-            .filter(|oid| self.geometry.place(*oid).is_some())
+            .filter(|oid| self.geometry.place(*oid).is_ok())
             .collect();
         while oids.len() > NAMED_LOOKED_AT {
             oids.swap_remove(rng.below(oids.len()));

@@ -1,7 +1,8 @@
 //! The model as a library, with one fault: of document 01's list, of document
-//! 02's flushes, empty pages or forecast, in the order of a directory, or at a
-//! limit.
+//! 02's flushes, empty pages or forecast, in the order of a directory, at a
+//! border of ranges, or at a limit.
 
+mod borders;
 mod directory;
 mod forecast;
 mod limits;
@@ -72,6 +73,10 @@ pub enum Fault {
     EntryMissed {
         last: bool,
     },
+    /// Calls answer 21 and 9 wrongly at this border of ranges.
+    Border {
+        row: usize,
+    },
     /// Format or start answers question 5 wrongly at this limit.
     Limit {
         row: usize,
@@ -106,7 +111,7 @@ impl Faulty {
 
     fn place(&self, call: &Call) -> Option<Place> {
         let store = self.model.store.as_ref()?;
-        store.geometry.place(call.oid()?)
+        store.geometry.place(call.oid()?).ok()
     }
 
     /// The waiting bytes of a page whose flag is set, or those at home.
@@ -298,6 +303,9 @@ impl Reference for Faulty {
             (Fault::EntryLost, Call::Start) => self.lose_entry(lent),
             (Fault::EntryMissed { last }, Call::Key { .. } | Call::Read { .. }) => {
                 self.miss_entry(last, call, lent)
+            }
+            (Fault::Border { row }, call) if call.oid().is_some() => {
+                self.pass_border(row, call, lent, bytes)
             }
             (_, Call::Write { .. }) => self.change(call, lent, bytes),
             _ => self.model.make(call, lent, bytes),

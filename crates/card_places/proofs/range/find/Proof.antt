@@ -7,20 +7,24 @@ use native.Mathlib.Omega.{arith}
 use Rattle.card.proofs.BytesLaws.{tab-start, tab-end}
 use Rattle.card.proofs.RangeLaws.{range-next, holds-low, locate-here, locate-later, locate-none}
 use Rattle.card.specs.Bytes.{tabulate}
-use Rattle.card.specs.Range.{Range, rangeIn, rangesOf, addressIn, locate}
+use Rattle.card.specs.Range.{Range, rangeIn, rangesOf, addressIn, missing, locateOr, locate}
 use Rattle.card.specs.declared.range.Lookup.the-variants.{Located}
 use Rattle.card_places.proofs.range.find.Statement.{statement}
 use Rattle.card_places.proofs.range.find.Tie as tie
 
 abbrev Inv-loop : tie.InvT-loop
-Inv-loop area numbers count oid sought start₀ i₀ start i = (i ≤ count) × ((start ≤ 513 + 8589934592 * i) × (locate (tabulate (rangeIn numbers) i (count - i)) start oid ≡ locate (rangesOf numbers count) (1 + area) oid))
+Inv-loop area numbers count oid sought start₀ i₀ start i = (i ≤ count)
+    × ((start ≤ 513 + 8589934592 * i) × (locateOr (missing (rangesOf numbers count) oid) (tabulate (rangeIn numbers) i (count - i)) start oid ≡ locate (rangesOf numbers count) (1 + area) oid))
 
 abbrev μ-loop : tie.MeasureT-loop
 μ-loop area numbers count oid sought start₀ i₀ start i = count - i
 
 loop-holds : tie.Need-loop-holds Inv-loop μ-loop
-unfolding rangesOf
-loop-holds c = (omega arith, (omega arith, ap (λ (l : List Range). locate l (1 + c .before .args .area) (c .before .args .oid)) (tab-start (rangeIn (c .before .args .numbers .now)) (c .before .args .count))))
+unfolding rangesOf locate
+loop-holds c =
+    let a = c .before .args in
+    let none = missing (rangesOf (a .numbers .now) (a .count)) (a .oid) in
+    (omega arith, (omega arith, ap (λ (l : List Range). locateOr none l (1 + a .area) (a .oid)) (tab-start (rangeIn (a .numbers .now)) (a .count))))
 
 sub-address-in : tie.Need-sub-address-in Inv-loop μ-loop
 sub-address-in c =
@@ -36,7 +40,7 @@ returns c =
     let a = at-start .args in
     let l = at-loop in
     ap Located (c .address-in .ensures ∙ ap (λ (n : ℕ). addressIn (l .start) (n - at-wide2 .result)) (at-wide .ensures .0))
-    ∙ sym (locate-here (l .start) (a .oid) _ _ _ (range-next (a .numbers .now) (l .i) (a .count) _ _ (omega arith) (at-wide2 .ensures .0) (c .before .before .before .wide3 .ensures .0))
+    ∙ sym (locate-here _ (l .start) (a .oid) _ _ _ (range-next (a .numbers .now) (l .i) (a .count) _ _ (omega arith) (at-wide2 .ensures .0) (c .before .before .before .wide3 .ensures .0))
     (rw (at-wide .ensures .0) at (sym (c .before .before .holds .ensures) ∙ c .before .if1 .taken)))
     ∙ l .inv .1 .1
 
@@ -51,7 +55,7 @@ loop-again c =
       (
         omega (arith, c .blocks2 .ensures),
         rw (c .blocks2 .ensures)
-            (sym (locate-later (l .start) (a .oid) _ _ _ (range-next (a .numbers .now) (l .i) (a .count) _ _ (omega arith) (c .before .before .before .before .before .wide2 .ensures .0) (c .before .before .before .wide3 .ensures .0))
+            (sym (locate-later _ (l .start) (a .oid) _ _ _ (range-next (a .numbers .now) (l .i) (a .count) _ _ (omega arith) (c .before .before .before .before .before .wide2 .ensures .0) (c .before .before .before .wide3 .ensures .0))
             (rw (at-wide .ensures .0) at (sym (c .before .before .holds .ensures) ∙ c .before .if1 .left))))
             ∙ l .inv .1 .1,
       ),
@@ -59,9 +63,12 @@ loop-again c =
 
 returns-2 : tie.Need-returns-2 Inv-loop μ-loop
 returns-2 c =
-    let a = c .before .before .before .args in
-    let l = c .before .loop in
-    sym (locate-none (l .start) (a .oid) _ (tab-end (rangeIn (a .numbers .now)) (l .i) (a .count) (omega arith))) ∙ l .inv .1 .1
+    let at-start = c .before .before .before .before in
+    let a = at-start .args in
+    let l = c .before .before .loop in
+    c .missing .ensures ∙ ap (missing (rangesOf (a .numbers .now) (a .count))) (c .before .before .before .wide .ensures .0)
+    ∙ sym (locate-none _ (l .start) (a .oid) _ (tab-end (rangeIn (a .numbers .now)) (l .i) (a .count) (omega arith)))
+    ∙ l .inv .1 .1
 
 pub find-spec : {M : Type 1} → statement M
 find-spec =
@@ -90,4 +97,5 @@ find-spec =
     (λ c. omega arith)
     (λ c. omega arith)
     loop-again
+    (λ c κs. omega arith)
     returns-2)
