@@ -79,7 +79,7 @@ extern "C" {
 #endif
 
 /* The version of this interface: the record's form, the answers and the calls' arguments. */
-#define LANE_VERSION 2
+#define LANE_VERSION 3
 
 /* The library's LANE_VERSION. With another one no answer can be trusted. */
 uint32_t lane_version(void);
@@ -123,6 +123,7 @@ enum lane_refusal {
     LANE_COMMIT_END = 18,      /* nothing more is kept: copy the pages to a newly formatted card */
     LANE_NONE_WAITS = 19,      /* nothing */
     LANE_NOTHING_DUE = 20,     /* nothing */
+    LANE_GAP = 21,             /* mistyped: the card has smaller and larger ones; or of another card */
     LANE_FLUSH_DUE = 28        /* advance once (F), then page out */
 };
 
@@ -139,7 +140,7 @@ static inline const char *lane_refusal_text(uint32_t refusal)
     case LANE_COMMIT: return "commit and trailer are not both 0, nor commit above 0 and trailer in 1 to A";
     case LANE_TRAILER: return "the trailer is not that commit's, or its numbers do not fit";
     case LANE_DIRECTORY: return "entries do not rise, or name no home frame or no block among the p";
-    case LANE_OID: return "the OID is in no range";
+    case LANE_OID: return "the OID is below the first range or above the last";
     case LANE_COUNT: return "the key's count is not the present one";
     case LANE_LENGTH: return "the buffer is not 512 bytes, or offset + length is above 512";
     case LANE_GENERATION_FULL: return "the current size would be above H, half the area";
@@ -151,6 +152,7 @@ static inline const char *lane_refusal_text(uint32_t refusal)
     case LANE_COMMIT_END: return "the commit number is 4,294,967,295";
     case LANE_NONE_WAITS: return "no frame waits";
     case LANE_NOTHING_DUE: return "no block write and no flush is due";
+    case LANE_GAP: return "the OID lies between two ranges";
     case LANE_FLUSH_DUE: return "the flush after a header write or a start is due";
     default: return "a number that this header does not know";
     }
@@ -255,27 +257,28 @@ uint32_t lane_start(lane_store *s, const uint8_t *card, size_t card_len, const u
                     size_t memory_len);
 
 /* Gives the present count of an OID; the two are the key that the next three calls take.
-   Answers LANE_MEMORY 1, LANE_RECORD 2, LANE_CARD 3, LANE_OID 9. */
+   Answers LANE_MEMORY 1, LANE_RECORD 2, LANE_CARD 3, LANE_GAP 21, LANE_OID 9. */
 lane_present lane_key(const lane_store *s, const uint8_t *card, size_t card_len,
                       const uint8_t *memory, size_t memory_len, uint32_t oid);
 
 /* Fills a buffer of 512 bytes with the page.
-   Answers LANE_MEMORY 1, LANE_RECORD 2, LANE_CARD 3, LANE_OID 9, LANE_COUNT 10, LANE_LENGTH 11. */
+   Answers LANE_MEMORY 1, LANE_RECORD 2, LANE_CARD 3, LANE_GAP 21, LANE_OID 9, LANE_COUNT 10,
+   LANE_LENGTH 11. */
 uint32_t lane_read(const lane_store *s, const uint8_t *card, size_t card_len,
                    const uint8_t *memory, size_t memory_len, uint32_t oid, uint32_t count,
                    uint8_t *buffer, size_t buffer_len);
 
 /* Puts bytes into the page at offset `at`. Length 0 changes nothing.
-   Answers LANE_MEMORY 1, LANE_RECORD 2, LANE_CARD 3, LANE_OID 9, LANE_COUNT 10, LANE_LENGTH 11,
-   LANE_GENERATION_FULL 12, LANE_AREA_FULL 13, LANE_MEMORY_FULL 14. */
+   Answers LANE_MEMORY 1, LANE_RECORD 2, LANE_CARD 3, LANE_GAP 21, LANE_OID 9, LANE_COUNT 10,
+   LANE_LENGTH 11, LANE_GENERATION_FULL 12, LANE_AREA_FULL 13, LANE_MEMORY_FULL 14. */
 uint32_t lane_write(lane_store *s, const uint8_t *card, size_t card_len, uint8_t *memory,
                     size_t memory_len, uint32_t oid, uint32_t count, size_t at,
                     const uint8_t *bytes, size_t bytes_len);
 
 /* Empties the page, which then reads as zeros, and adds 1 to its count, so that every key to it is old.
    WIPES NOTHING: its old bytes may stay on the card, in the area and in its home block.
-   Answers LANE_MEMORY 1, LANE_RECORD 2, LANE_CARD 3, LANE_OID 9, LANE_COUNT 10, LANE_COUNT_END 15,
-   LANE_GENERATION_FULL 12, LANE_AREA_FULL 13, LANE_MEMORY_FULL 14. */
+   Answers LANE_MEMORY 1, LANE_RECORD 2, LANE_CARD 3, LANE_GAP 21, LANE_OID 9, LANE_COUNT 10,
+   LANE_COUNT_END 15, LANE_GENERATION_FULL 12, LANE_AREA_FULL 13, LANE_MEMORY_FULL 14. */
 uint32_t lane_rescind(lane_store *s, const uint8_t *card, size_t card_len, uint8_t *memory,
                       size_t memory_len, uint32_t oid, uint32_t count);
 

@@ -158,22 +158,22 @@ void lane_file_close(lane_file *lane);
  */
 
 /* Gives the present count of an OID, the two being the key that the next three calls take; refused, 0.
-   Answers LANE_OID 9. */
+   Answers LANE_GAP 21, LANE_OID 9. */
 int lane_file_key(const lane_file *lane, uint32_t oid, uint32_t *count);
 
 /* Fills 512 bytes with the page.
-   Answers LANE_OID 9, LANE_COUNT 10. */
+   Answers LANE_GAP 21, LANE_OID 9, LANE_COUNT 10. */
 int lane_file_read(const lane_file *lane, uint32_t oid, uint32_t count, void *page);
 
 /* Puts n bytes into the page at offset `at`. No bytes change nothing.
-   Answers LANE_OID 9, LANE_COUNT 10, LANE_LENGTH 11, LANE_GENERATION_FULL 12 (but with LANE_ROOM_COMMIT), and
-   with LANE_ROOM_REFUSE LANE_AREA_FULL 13 and LANE_MEMORY_FULL 14; with LANE_ROOM_COMMIT also LANE_COMMIT_END
-   18. LANE_FILE_WRITE or _FLUSH where room was to be made. */
+   Answers LANE_GAP 21, LANE_OID 9, LANE_COUNT 10, LANE_LENGTH 11, LANE_GENERATION_FULL 12 (but with
+   LANE_ROOM_COMMIT), and with LANE_ROOM_REFUSE LANE_AREA_FULL 13 and LANE_MEMORY_FULL 14; with LANE_ROOM_COMMIT
+   also LANE_COMMIT_END 18. LANE_FILE_WRITE or _FLUSH where room was to be made. */
 int lane_file_write(lane_file *lane, uint32_t oid, uint32_t count, size_t at, const void *bytes, size_t n);
 
 /* Empties the page, which then reads as zeros, and adds 1 to its count, so that every key to it is old. WIPES
    NOTHING: its old bytes may stay on the card.
-   Answers LANE_OID 9, LANE_COUNT 10, LANE_COUNT_END 15, and for room what lane_file_write answers. */
+   Answers LANE_GAP 21, LANE_OID 9, LANE_COUNT 10, LANE_COUNT_END 15, and for room what lane_file_write answers. */
 int lane_file_rescind(lane_file *lane, uint32_t oid, uint32_t count);
 
 /*

@@ -89,6 +89,28 @@ static void a_day(const char *path, int unmapped)
     lane_file_close(lane);
 }
 
+/* OIDs around two ranges of two pages each. */
+static void ranges(const char *path)
+{
+    static const uint32_t apart[4] = {FIRST, 2, FIRST + 4, 2};
+    static const int told[8] = {LANE_OID, LANE_DONE, LANE_DONE, LANE_GAP, LANE_GAP, LANE_DONE, LANE_DONE, LANE_OID};
+    const lane_file_options options = kill_safe();
+    uint8_t page[LANE_BLOCK] = {0};
+    lane_file *lane;
+    unlink(path);
+    IS(lane_file_create(&lane, path, AREA, apart, 4, &options), LANE_DONE);
+    for (uint32_t i = 0; i < 8; i++) {
+        uint32_t oid = FIRST - 1 + i, count = 7;
+        IS(lane_file_key(lane, oid, &count), told[i]);
+        IS(count, 0);
+        IS(lane_file_read(lane, oid, 0, page), told[i]);
+        IS(lane_file_write(lane, oid, 0, 0, page, 0), told[i]);
+        if (told[i] != LANE_DONE)
+            IS(lane_file_rescind(lane, oid, 0), told[i]);
+    }
+    lane_file_close(lane);
+}
+
 static void keys(const char *path)
 {
     uint8_t page[LANE_BLOCK] = {0};
@@ -505,7 +527,7 @@ static void texts(void)
 {
     for (int a = LANE_FILE_VERSION - 1; a <= LANE_FLUSH_DUE + 1; a++) {
         HOLDS(lane_file_text(a)[0] != '\0');
-        for (int b = LANE_FILE_VERSION - 1; b < a && a <= LANE_NOTHING_DUE; b++)
+        for (int b = LANE_FILE_VERSION - 1; b < a && a <= LANE_GAP; b++)
             HOLDS(strcmp(lane_file_text(a), lane_file_text(b)) != 0);
     }
     IS(strcmp(lane_file_text(LANE_FLUSH_DUE), lane_refusal_text(LANE_FLUSH_DUE)), 0);
@@ -520,6 +542,7 @@ int main(int argc, char **argv)
     a_day(path, 0);
     a_day(path, 1);
     keys(path);
+    ranges(path);
     commit_over_pending(path);
     steps(path);
     passed_over(path);

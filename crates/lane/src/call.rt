@@ -32,7 +32,7 @@ ghost use Rattle.linked.specs.Linked.{version, number, filling, present, forete
 pub extern "C" fn lane_version() -> u32
     ensures { λ r. ⌜ r ≡ version ⌝ }
 {
-    2
+    3
 }
 
 // Format takes no record.

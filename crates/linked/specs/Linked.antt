@@ -20,7 +20,7 @@ use Rattle.recovery.specs.Step.{Kind, page, directory, trailer, migration, head
 -- the version of the linked interface, as include/lane.h has it: raised when the record's form, an answer or a call's
 -- arguments change
 abbrev pub version : ℕ
-version = 2
+version = 3
 
 -- what C gets of a call: a number; read's number and its buffer after the call; key's refusal and count; forecast's
 -- refusal and advances; page-out's and advance's kind, refusal and block

@@ -70,7 +70,7 @@ pub use store::Store;
 
 /// The version of the library's interface that this crate is written for. [`format()`] and
 /// [`Store::start`] compare it with the one of the library that is linked.
-pub const VERSION: u32 = 2;
+pub const VERSION: u32 = 3;
 
 /// Bytes of a block, a page and a memory frame.
 pub const BLOCK: usize = 512;

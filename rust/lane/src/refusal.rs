@@ -41,7 +41,7 @@ refusals! {
     Commit = 6, "commit and trailer are not both 0, nor commit above 0 and trailer in 1 to A";
     Trailer = 7, "the trailer is not that commit's, or its numbers do not fit";
     Directory = 8, "entries do not rise, or name no home frame or no block among the p";
-    Oid = 9, "the OID is in no range";
+    Oid = 9, "the OID is below the first range or above the last";
     Count = 10, "the key's count is not the present one";
     Length = 11, "the buffer is not 512 bytes, or offset + length is above 512";
     GenerationFull = 12, "the current size would be above H, half the area";
@@ -53,6 +53,7 @@ refusals! {
     CommitEnd = 18, "the commit number is 4,294,967,295";
     NoneWaits = 19, "no frame waits";
     NothingDue = 20, "no block write and no flush is due";
+    Gap = 21, "the OID lies between two ranges";
     FlushDue = 28, "the flush after a header write or a start is due";
 }
 

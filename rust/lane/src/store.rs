@@ -43,7 +43,7 @@ impl Store {
     /// # Errors
     ///
     /// [`Memory`](Refusal::Memory) 1, [`Record`](Refusal::Record) 2, [`Card`](Refusal::Card) 3,
-    /// [`Oid`](Refusal::Oid) 9.
+    /// [`Gap`](Refusal::Gap) 21, [`Oid`](Refusal::Oid) 9.
     pub fn key(&self, card: &[u8], memory: &[u8], oid: u32) -> Result<Key, Refusal> {
         let present = raw::key(&self.record, card, memory, oid);
         Refusal::done(present.refusal)?;
@@ -56,7 +56,8 @@ impl Store {
     /// # Errors
     ///
     /// [`Memory`](Refusal::Memory) 1, [`Record`](Refusal::Record) 2, [`Card`](Refusal::Card) 3,
-    /// [`Oid`](Refusal::Oid) 9, [`Count`](Refusal::Count) 10, [`Length`](Refusal::Length) 11.
+    /// [`Gap`](Refusal::Gap) 21, [`Oid`](Refusal::Oid) 9, [`Count`](Refusal::Count) 10,
+    /// [`Length`](Refusal::Length) 11.
     pub fn read(
         &self,
         card: &[u8],
@@ -72,9 +73,9 @@ impl Store {
     /// # Errors
     ///
     /// [`Memory`](Refusal::Memory) 1, [`Record`](Refusal::Record) 2, [`Card`](Refusal::Card) 3,
-    /// [`Oid`](Refusal::Oid) 9, [`Count`](Refusal::Count) 10, [`Length`](Refusal::Length) 11,
-    /// [`GenerationFull`](Refusal::GenerationFull) 12, [`AreaFull`](Refusal::AreaFull) 13,
-    /// [`MemoryFull`](Refusal::MemoryFull) 14.
+    /// [`Gap`](Refusal::Gap) 21, [`Oid`](Refusal::Oid) 9, [`Count`](Refusal::Count) 10,
+    /// [`Length`](Refusal::Length) 11, [`GenerationFull`](Refusal::GenerationFull) 12,
+    /// [`AreaFull`](Refusal::AreaFull) 13, [`MemoryFull`](Refusal::MemoryFull) 14.
     pub fn write(
         &mut self,
         card: &[u8],
@@ -93,9 +94,9 @@ impl Store {
     /// # Errors
     ///
     /// [`Memory`](Refusal::Memory) 1, [`Record`](Refusal::Record) 2, [`Card`](Refusal::Card) 3,
-    /// [`Oid`](Refusal::Oid) 9, [`Count`](Refusal::Count) 10, [`CountEnd`](Refusal::CountEnd) 15,
-    /// [`GenerationFull`](Refusal::GenerationFull) 12, [`AreaFull`](Refusal::AreaFull) 13,
-    /// [`MemoryFull`](Refusal::MemoryFull) 14.
+    /// [`Gap`](Refusal::Gap) 21, [`Oid`](Refusal::Oid) 9, [`Count`](Refusal::Count) 10,
+    /// [`CountEnd`](Refusal::CountEnd) 15, [`GenerationFull`](Refusal::GenerationFull) 12,
+    /// [`AreaFull`](Refusal::AreaFull) 13, [`MemoryFull`](Refusal::MemoryFull) 14.
     pub fn rescind(&mut self, card: &[u8], memory: &mut [u8], key: Key) -> Result<(), Refusal> {
         Refusal::done(raw::rescind(&mut self.record, card, memory, key))
     }

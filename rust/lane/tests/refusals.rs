@@ -96,6 +96,36 @@ fn card_and_memory_are_as_long_as_at_start() {
     assert_eq!(lane.store.forecast(short, &long), Err(Refusal::Memory));
 }
 
+/// OIDs 10 to 14 and 20 to 24; then 10 to 14 and 15 to 19, which touch.
+#[test]
+fn an_oid_between_two_ranges_is_told_from_one_outside() {
+    let (gap, outside) = (Some(Refusal::Gap), Some(Refusal::Oid));
+    for (second, of_14_to_20) in [
+        (20, [None, gap, gap, gap, gap, gap, None]),
+        (15, [None, None, None, None, None, None, outside]),
+    ] {
+        let ranges = [10, second].map(|first| Range { first, pages: 5 });
+        let mut card = vec![0; 21 * 512];
+        let mut memory = vec![0; 4 * 512];
+        format(&mut card, 8, &ranges).unwrap();
+        let mut store = Store::start(&card, &memory).unwrap();
+        let rows = (14..).zip(of_14_to_20);
+        for (oid, refusal) in rows.chain([(9, outside), (25, outside)]) {
+            let key = Key { oid, count: 0 };
+            let expected = refusal.map_or(Ok(()), Err);
+            let found = store.key(&card, &memory, oid);
+            assert_eq!(found, expected.map(|()| key));
+            let read = store.read(&card, &memory, key, &mut [0; 512]);
+            let write = store.write(&card, &mut memory, key, 0, &[]);
+            assert_eq!([read, write], [expected; 2]);
+            if refusal.is_some() {
+                let rescinded = store.rescind(&card, &mut memory, key);
+                assert_eq!(rescinded, expected);
+            }
+        }
+    }
+}
+
 #[test]
 fn a_key_is_an_oid_of_a_range_with_the_present_count() {
     let mut lane = Lane::new();
@@ -211,6 +241,6 @@ fn a_refusal_says_its_number_and_meaning() {
     assert_eq!(Refusal::Oid.number(), 9);
     assert_eq!(
         Refusal::Oid.to_string(),
-        "refused 9: the OID is in no range"
+        "refused 9: the OID is below the first range or above the last"
     );
 }

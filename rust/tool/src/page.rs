@@ -53,6 +53,6 @@ fn unknown(oid: u32, refusal: Refusal, geometry: &Geometry) -> Failure {
     let number = refusal.number();
     let ranges = oids.join(", ");
     Failure::Bad(format!(
-        "{refusal}\n{number}: OID {oid} is in no range, the OIDs are {ranges}"
+        "{refusal}\n{number}: no OID {oid}, the OIDs are {ranges}"
     ))
 }

@@ -272,8 +272,18 @@ page    area block 23, committed for home block 30
 fn an_oid_in_no_range_is_status_1() {
     let folder = Folder::new();
     let image = folder.file("card", busy());
-    let words = "9: OID 203 is in no range, the OIDs are 100 to 202, 1000 to 1019";
-    on("page", &image, &["203"]).failed(1, words);
+    for (oid, number, why) in [
+        ("99", 9, "is below the first range or above the last"),
+        ("203", 21, "lies between two ranges"),
+        ("999", 21, "lies between two ranges"),
+        ("1020", 9, "is below the first range or above the last"),
+    ] {
+        let why = format!("refused {number}: the OID {why}\n");
+        let oids = format!("{number}: no OID {oid}, the OIDs are 100 to 202, 1000 to 1019\n");
+        for words in [why, oids] {
+            on("page", &image, &[oid]).failed(1, &words);
+        }
+    }
     for oid in ["x", "1:1", "4294967296"] {
         on("page", &image, &[oid]).failed(2, "OID");
     }

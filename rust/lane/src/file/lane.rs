@@ -82,7 +82,7 @@ impl<D: Drive> Lane<D> {
     ///
     /// # Errors
     ///
-    /// [`Refusal::Oid`] 9; [`Error::Stopped`].
+    /// [`Refusal::Gap`] 21, [`Refusal::Oid`] 9; [`Error::Stopped`].
     pub fn key(&self, oid: u32) -> Result<Key, Error> {
         self.live()?;
         Ok(self.store.key(&self.card, &self.memory, oid)?)
@@ -92,7 +92,7 @@ impl<D: Drive> Lane<D> {
     ///
     /// # Errors
     ///
-    /// [`Refusal::Oid`] 9, [`Refusal::Count`] 10; [`Error::Stopped`].
+    /// [`Refusal::Gap`] 21, [`Refusal::Oid`] 9, [`Refusal::Count`] 10; [`Error::Stopped`].
     pub fn read(&self, key: Key, page: &mut [u8; BLOCK]) -> Result<(), Error> {
         self.live()?;
         Ok(self.store.read(&self.card, &self.memory, key, page)?)
@@ -102,9 +102,9 @@ impl<D: Drive> Lane<D> {
     ///
     /// # Errors
     ///
-    /// [`Refusal::Oid`] 9, [`Refusal::Count`] 10, [`Refusal::Length`] 11, and where there is no
-    /// [`Room`], [`Refusal::GenerationFull`] 12, [`Refusal::AreaFull`] 13, [`Refusal::MemoryFull`]
-    /// 14; [`Error::Drive`] in making room; [`Error::Stopped`].
+    /// [`Refusal::Gap`] 21, [`Refusal::Oid`] 9, [`Refusal::Count`] 10, [`Refusal::Length`] 11, and
+    /// where there is no [`Room`], [`Refusal::GenerationFull`] 12, [`Refusal::AreaFull`] 13,
+    /// [`Refusal::MemoryFull`] 14; [`Error::Drive`] in making room; [`Error::Stopped`].
     pub fn write(&mut self, key: Key, at: usize, bytes: &[u8]) -> Result<(), Error> {
         self.with_room(|lane| {
             let (card, memory) = (&lane.card, &mut lane.memory);
