@@ -12,7 +12,7 @@ use native.Mathlib.Omega.{arith}
 use Rattle.card.proofs.RangeLaws.{below-here, below-later, below-none, above-here, above-later, above-none, missing-gap, missing-below, missing-above, RangesRise, geometry-tells}
 use Rattle.card.proofs.Test.{both}
 use Rattle.card.specs.Bytes.{All}
-use Rattle.card.specs.Range.{Range, rangeBlocks, geometryFits, addressIn, someBelow, someAbove, missing, locateOr, locate}
+use Rattle.card.specs.Range.{Range, rangeBlocks, geometryFits, addressIn, someBelow, someAbove, missing, locateOr, locate, lastEnd}
 use Rattle.card.specs.declared.range.Address.{Address}
 use Rattle.card.specs.declared.range.Lookup.{Lookup}
 use Rattle.card.specs.declared.range.Lookup.the-variants.{Located, Gap, Outside}
@@ -29,11 +29,6 @@ abbrev pub Between : List Range → ℕ → Type 0
 Between [] oid = ⊥
 Between (r ∷ []) oid = ⊥
 Between (r ∷ x ∷ xs) oid = ((r .oid + r .pages ≤ oid) × (oid < x .oid)) ⊎ Between (x ∷ xs) oid
-
--- the OID behind the last range
-abbrev pub lastEnd : Range → List Range → ℕ
-lastEnd r [] = r .oid + r .pages
-lastEnd r (x ∷ xs) = lastEnd x xs
 
 -- the OID is below the first range, or at or above the last one's end
 abbrev pub Beyond : List Range → ℕ → Type 0

@@ -70,6 +70,11 @@ locateOr none (r ∷ rs) start oid = cond (leb (r .oid) oid && ltb oid (r .oid +
 unfoldable pub locate : List Range → ℕ → ℕ → Lookup
 locate rs start oid = locateOr (missing rs oid) rs start oid
 
+-- the OID behind the last range
+abbrev pub lastEnd : Range → List Range → ℕ
+lastEnd r [] = r .oid + r .pages
+lastEnd r (x ∷ xs) = lastEnd x xs
+
 -- the blocks that ranges take
 abbrev pub allBlocks : List Range → ℕ
 allBlocks [] = 0

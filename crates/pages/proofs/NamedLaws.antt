@@ -49,7 +49,7 @@ searchable l h =
     let few = geometry-tells (s .geometry .blocks) (s .geometry .area) (rangesOf (s .geometry .ranges) (s .geometry .count)) (g .geometry) .few in
     (bounds s g .area-high, rw (tab-length (rangeIn (s .geometry .ranges)) 0 (s .geometry .count)) at few)
 
--- 1 to 3 and 9 are passed
+-- 1 to 3, 21 and 9 are passed
 pub record Found (l : Lent) (oid : ℕ) (p : Address) : Type 0 where
   pub passed : firstNo (common l) ≡ 0
   pub place-is : addressOf l oid ≡ Located p

@@ -1,41 +1,49 @@
 -- 21 and 9 (document 02, #101), of every call that names an OID: once 1 to 3 are passed it is refused 21 exactly where
--- the OID lies between two ranges, and 9 exactly where it is below the first or above the last.
+-- the OID lies between two ranges, and 9 exactly where it is below the first or above the last; and the plain machine
+-- asks the same in its own words.
 -- Assumes nothing.
 use Prim.Native.Nat.{ℕ, _+_}
+use borrow.Author.Tests.{leb-true, ltb-true, le-leb, lt-ltb}
+use lib.Dec.{leb, ltb}
 use lib.ListN.{length}
-use mathlib.Core.Bool.{true}
-use mathlib.Core.List.{_++_}
-use mathlib.Core.Logic.{_≢_}
-use mathlib.Core.Path.{_≡_, refl, sym, _∙_, subst}
+use mathlib.Core.Bool.{Bool, true, false, not, _&&_, _||_, false≢true}
+use mathlib.Core.List.{List, [], _∷_, _++_}
+use mathlib.Core.Logic.{_≢_, _⊎_, inl, inr, ⊎-elim}
+use mathlib.Core.Path.{_≡_, refl, ap, sym, _∙_, subst}
 use native.Mathlib.Omega.{arith}
 use Rattle.card.proofs.AllLaws.{all-join, all-map}
 use Rattle.card.proofs.LookupLaws.{Between, Beyond, Claim, lookup-tells, lookup-is}
-use Rattle.card.proofs.QuestionLaws.{first-among}
-use Rattle.card.specs.Question.{Question, firstNo}
-use Rattle.card.specs.Range.{geometryFits}
+use Rattle.card.proofs.QuestionLaws.{asked-yes, asked-no, first-among}
+use Rattle.card.proofs.Test.{both, joined}
+use Rattle.card.specs.Question.{Question, ask, firstNo}
+use Rattle.card.specs.Range.{Range, geometryFits, locate, lastEnd}
 use Rattle.card.specs.declared.range.Address.{Address}
 use Rattle.card.specs.declared.range.Lookup.{Lookup}
 use Rattle.card.specs.declared.range.Lookup.the-variants.{Located, Gap, Outside}
 use Rattle.frames.proofs.ReadyLaws.{ready}
 use Rattle.frames.specs.Promise.{Lent, meaningOf, common}
-use Rattle.pages.proofs.AnswerLaws.{asked-own, on-located, on-gap, on-outside, Behind9, asks-behind, room-behind}
+use Rattle.pages.proofs.AnswerLaws.{asked-own, placed-located, placed-gap, placed-outside, on-located, on-gap, on-outside, Behind9, asks-behind, room-behind}
 use Rattle.pages.specs.Call.{PageCall, on, pageAsks}
-use Rattle.pages.specs.Promise.{addressOf, presentPage, callFrames, asks}
+use Rattle.pages.specs.Plain.{between, beyond}
+use Rattle.pages.specs.Promise.{addressOf, presentPage, callFrames, isGap, isOutside, placed, asks}
 use Rattle.record.proofs.Held.{held}
 use Rattle.recovery.specs.Questions.{roomAsks}
+
+-- ---- what the calls answer
+
+-- the ranges pass question 5, which question 2 asks again
+pub fits : (l : Lent) → firstNo (common l) ≡ 0 → geometryFits (meaningOf l .blocks) (meaningOf l .area) (meaningOf l .ranges) ≡ true
+fits l passes = held (l .store) (ready (l .store) (length (l .memory)) (length (l .card)) passes .together) .geometry
 
 abbrev Neither : ℕ → Type 0
 Neither n = (n ≢ 21) × (n ≢ 9)
 
 module _ (o : ℕ) (c : PageCall) (l : Lent) (passes : firstNo (common l) ≡ 0) where
-  fits : geometryFits (meaningOf l .blocks) (meaningOf l .area) (meaningOf l .ranges) ≡ true
-  fits = held (l .store) (ready (l .store) (length (l .memory)) (length (l .card)) passes .together) .geometry
-
   tells : (x : Lookup) → addressOf l o ≡ x → Claim (meaningOf l .ranges) (1 + meaningOf l .area) o x
-  tells = lookup-tells (meaningOf l .blocks) (meaningOf l .area) (meaningOf l .ranges) fits (1 + meaningOf l .area) o
+  tells = lookup-tells (meaningOf l .blocks) (meaningOf l .area) (meaningOf l .ranges) (fits l passes) (1 + meaningOf l .area) o
 
   is : (x : Lookup) → Claim (meaningOf l .ranges) (1 + meaningOf l .area) o x → addressOf l o ≡ x
-  is = lookup-is (meaningOf l .blocks) (meaningOf l .area) (meaningOf l .ranges) fits (1 + meaningOf l .area) o
+  is = lookup-is (meaningOf l .blocks) (meaningOf l .area) (meaningOf l .ranges) (fits l passes) (1 + meaningOf l .area) o
 
   number-gap : addressOf l o ≡ Gap → firstNo (asks (on o c) l) ≡ 21
   number-gap e = asked-own (on o c) l tt passes ∙ on-gap o c l e
@@ -73,3 +81,82 @@ module _ (o : ℕ) (c : PageCall) (l : Lent) (passes : firstNo (common l) ≡ 0)
       go (Located p) e = absurd (number-located p e .1 n)
       go Gap e = absurd (omega (arith, n, number-gap e))
       go Outside e = tells Outside e
+
+-- ---- the machine's tests
+
+either : (a b : Bool) → a || b ≡ true → (a ≡ true) ⊎ (b ≡ true)
+either true b e = inl refl
+either false b e = inr e
+
+or-left : (a b : Bool) → a ≡ true → a || b ≡ true
+or-left a b e = rw e
+
+or-right : (a b : Bool) → b ≡ true → a || b ≡ true
+or-right true b e = refl
+or-right false b e = e
+
+between-tells : (rs : List Range) (o : ℕ) → between rs o ≡ true → Between rs o
+unfolding between
+between-tells [] o e = absurd (false≢true e)
+between-tells (r ∷ []) o e = absurd (false≢true e)
+between-tells (r ∷ x ∷ xs) o e = ⊎-elim
+    (λ h. let t = both (leb (r .oid + r .pages) o) _ h in inl (leb-true _ _ (t .0), ltb-true _ _ (t .1)))
+    (λ k. inr (between-tells (x ∷ xs) o k))
+    (either (leb (r .oid + r .pages) o && ltb o (x .oid)) (between (x ∷ xs) o) e)
+
+between-is : (rs : List Range) (o : ℕ) → Between rs o → between rs o ≡ true
+unfolding between
+between-is [] o q = absurd q
+between-is (r ∷ []) o q = absurd q
+between-is (r ∷ x ∷ xs) o q = ⊎-elim
+    (λ h. or-left _ (between (x ∷ xs) o) (joined _ _ (le-leb _ _ (h .0)) (lt-ltb _ _ (h .1))))
+    (λ k. or-right (leb (r .oid + r .pages) o && ltb o (x .oid)) _ (between-is (x ∷ xs) o k))
+    q
+
+beyond-tells : (rs : List Range) (o : ℕ) → beyond rs o ≡ true → Beyond rs o
+unfolding beyond
+beyond-tells [] o e = tt
+beyond-tells (r ∷ rs) o e = ⊎-elim (λ h. inl (ltb-true _ _ h)) (λ k. inr (leb-true _ _ k)) (either (ltb o (r .oid)) (leb (lastEnd r rs) o) e)
+
+beyond-is : (rs : List Range) (o : ℕ) → Beyond rs o → beyond rs o ≡ true
+unfolding beyond
+beyond-is [] o q = refl
+beyond-is (r ∷ rs) o q = ⊎-elim (λ h. or-left _ (leb (lastEnd r rs) o) (lt-ltb _ _ h)) (λ k. or-right (ltb o (r .oid)) _ (le-leb _ _ k)) q
+
+not-so : (t : Bool) → (t ≡ true → ⊥) → t ≡ false
+not-so true n = absurd (n refl)
+not-so false n = refl
+
+module _ (blocks area : ℕ) (rs : List Range) (g : geometryFits blocks area rs ≡ true) (start o : ℕ) where
+  abbrev found : Lookup
+  found = locate rs start o
+
+  -- an answer that is another one
+  gap-not : (x : Lookup) → found ≡ x → (isGap x ≡ false) → between rs o ≡ false
+  gap-not x e n = not-so (between rs o) (λ t. false≢true (sym n ∙ ap isGap (sym e ∙ lookup-is blocks area rs g start o Gap (between-tells rs o t))))
+
+  outside-not : (x : Lookup) → found ≡ x → (isOutside x ≡ false) → beyond rs o ≡ false
+  outside-not x e n = not-so (beyond rs o) (λ t. false≢true (sym n ∙ ap isOutside (sym e ∙ lookup-is blocks area rs g start o Outside (beyond-tells rs o t))))
+
+  pub gap-same : isGap (locate rs start o) ≡ between rs o
+  gap-same = go (locate rs start o) refl
+    where
+      go : (x : Lookup) → locate rs start o ≡ x → isGap x ≡ between rs o
+      go (Located p) e = sym (gap-not (Located p) e refl)
+      go Gap e = sym (between-is rs o (lookup-tells blocks area rs g start o Gap e))
+      go Outside e = sym (gap-not Outside e refl)
+
+  pub outside-same : isOutside (locate rs start o) ≡ beyond rs o
+  outside-same = go (locate rs start o) refl
+    where
+      go : (x : Lookup) → locate rs start o ≡ x → isOutside x ≡ beyond rs o
+      go (Located p) e = sym (outside-not (Located p) e refl)
+      go Gap e = sym (outside-not Gap e refl)
+      go Outside e = sym (beyond-is rs o (lookup-tells blocks area rs g start o Outside e))
+
+-- questions of a place begin as those of an OID that passes the same two tests
+pub placed-as : (a : Lookup) (rest : Address → List Question) (qs : List Question) → ((p : Address) → a ≡ Located p → firstNo (rest p) ≡ firstNo qs)
+    → firstNo (placed a rest) ≡ firstNo (ask 21 (not (isGap a)) ∷ ask 9 (not (isOutside a)) ∷ qs)
+placed-as (Located p) rest qs h = placed-located p rest ∙ h p refl ∙ sym (asked-yes 21 true _ refl ∙ asked-yes 9 true _ refl)
+placed-as Gap rest qs h = placed-gap rest ∙ sym (asked-no 21 false _ refl)
+placed-as Outside rest qs h = placed-outside rest ∙ sym (asked-yes 21 true _ refl ∙ asked-no 9 false _ refl)

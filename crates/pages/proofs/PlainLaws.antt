@@ -12,24 +12,24 @@ use native.Mathlib.Omega.{arith}
 use Rattle.card.proofs.QuestionLaws.{passed-both, group-yes, group-no}
 use Rattle.card.specs.Bytes.{All}
 use Rattle.card.specs.Question.{Question, firstNo}
-use Rattle.card.specs.Range.{Range, allBlocks}
+use Rattle.card.specs.Range.{Range, geometryFits, allBlocks}
 use Rattle.card.specs.declared.range.Address.{Address}
-use Rattle.card.specs.declared.range.Lookup.{Lookup}
-use Rattle.card.specs.declared.range.Lookup.the-variants.{Located, Gap, Outside}
+use Rattle.card.specs.declared.range.Lookup.the-variants.{Located}
 use Rattle.frames.proofs.Run.{told, Asked}
 use Rattle.frames.specs.Promise.{Lent, meaningOf, common, FrameCall, past}
-use Rattle.pages.proofs.AnswerLaws.{Later, ownAsks, placed-located, placed-gap, placed-outside, asks-numbered, on-passed}
+use Rattle.pages.proofs.AnswerLaws.{Later, ownAsks, asks-numbered, on-passed}
 use Rattle.pages.proofs.BlankLaws.{blank-change, blank-snapshot, blank-pageOut, blank-kind}
 use Rattle.pages.proofs.CanLaws.{passed-can, edits-apart}
 use Rattle.pages.proofs.EditLaws.{placeOn, SameRows, Long, changes-long, Alike, page-alike, CanAll, Made, frames-more, edits-made}
 use Rattle.pages.proofs.LedgerLaws.{nonePending, someChange, change-notes, out-keeps, kind-current, kind-marked, kind-phase, out-phase, room-is, due-is, advance-is, forecast-is, waiting-is, out-is, kind-is, passed-is, past-is}
 use Rattle.pages.proofs.NeededLaws.{needed-same, not-true, not-false}
+use Rattle.pages.proofs.PlaceLaws.{fits, gap-same, outside-same, placed-as}
 use Rattle.pages.specs.Call.{PageCall, key, read, write, rescind, Call, start, on, snapshot, pageOut, advance, forecast, Answer, wrote, foretold, pageAsks, edits, pageAnswer}
 use Rattle.pages.specs.Change.{Change, put, empty, Edit, writeFrames, changedFrames, atPlace, editFrames}
 use Rattle.pages.specs.Needed.{needed}
 use Rattle.pages.specs.Page.{Page}
-use Rattle.pages.specs.Plain.{Row, rowOf, Plain, blank, plainAddress, editTouches, isNone, rowAsks, plainAsks, plainKind, PlainOutcome, answers, rowAnswer, plainEdits, plainAdvance, plainDone, plainOver, plainPast, ledgerOf}
-use Rattle.pages.specs.Promise.{answered, addressOf, presentFrames, presentPage, callFrames, placed, asks, frameCall, doneAnswer, committedFrames, over, passedOf}
+use Rattle.pages.specs.Plain.{Row, rowOf, Plain, blank, plainAddress, editTouches, isNone, between, beyond, rowAsks, plainAsks, plainKind, PlainOutcome, answers, rowAnswer, plainEdits, plainAdvance, plainDone, plainOver, plainPast, ledgerOf}
+use Rattle.pages.specs.Promise.{answered, addressOf, presentFrames, presentPage, callFrames, isGap, isOutside, asks, frameCall, doneAnswer, committedFrames, over, passedOf}
 use Rattle.recovery.proofs.Follows.{Follows}
 use Rattle.recovery.proofs.FollowsStep.{follows-pass}
 use Rattle.recovery.proofs.FrameTheorem.{reads-present, reads-committed}
@@ -46,18 +46,13 @@ use Rattle.recovery.specs.Sums.{roomSums, passedTo, remainingWrites, firstOf, a
 use Rattle.recovery.specs.Write.{BlockWrite}
 use Rattle.frames.specs.Promise as frames
 
--- two lists of questions that begin alike, or of a place alike, have the same first "no"
+-- two lists of questions that begin alike have the same first "no"
 begun-same : (ps qs rs : List Question) → All (λ (q : Question). 0 < q .number) ps → (firstNo ps ≡ 0 → firstNo qs ≡ firstNo rs) → firstNo (ps ++ qs) ≡ firstNo (ps ++ rs)
 begun-same ps qs rs numbered h = go (ℕ-discrete (firstNo ps) 0)
   where
     go : Dec (firstNo ps ≡ 0) → firstNo (ps ++ qs) ≡ firstNo (ps ++ rs)
     go (yes e) = group-yes ps qs numbered e ∙ h e ∙ sym (group-yes ps rs numbered e)
     go (no z) = group-no ps qs z ∙ sym (group-no ps rs z)
-
-placed-same : (a : Lookup) (f h : Address → List Question) → ((p : Address) → a ≡ Located p → firstNo (f p) ≡ firstNo (h p)) → firstNo (placed a f) ≡ firstNo (placed a h)
-placed-same (Located p) f h e = placed-located p f ∙ e p refl ∙ sym (placed-located p h)
-placed-same Gap f h e = placed-gap f ∙ sym (placed-gap h)
-placed-same Outside f h e = placed-outside f ∙ sym (placed-outside h)
 
 -- of a row, the machine asks and answers as the promise does of its page
 asks-same : (c : PageCall) (r : Row) → pageAsks c (r .page) ≡ rowAsks c r
@@ -145,6 +140,10 @@ module _ (rs : List Range) (blocks area : ℕ) (full : blocks ≡ 1 + area + all
     plain-places : plainAddress t ≡ placeOn rs area
     plain-places = λ i o. plain-address o i
 
+    ledger-ranges : (t .ledger .ranges ≡ rs) × (t .ledger .area ≡ area)
+    unfolding blank
+    ledger-ranges = (ap (λ (s : State). s .ranges) (b .ledger-is) ∙ b .follows .ranges-is, ap (λ (s : State). s .area) (b .ledger-is) ∙ b .follows .area-is)
+
     -- ---- a list of changes
 
     rises : Rises (meaningOf l .current .entries)
@@ -187,6 +186,9 @@ module _ (rs : List Range) (blocks area : ℕ) (full : blocks ≡ 1 + area + all
 
     -- ---- a call on a page
 
+    ranges-fit : geometryFits (meaningOf l .blocks) area rs ≡ true
+    ranges-fit = rw (← b .follows .ranges-is, ← b .follows .area-is) (fits l (b .passes))
+
     module _ (o : ℕ) (c : PageCall) where
       frames-are : CanAll rs blocks area full (edits o c) (t .rows) → callFrames o c l ≡ framesOf (edits o c)
       unfolding callFrames
@@ -208,9 +210,15 @@ module _ (rs : List Range) (blocks area : ℕ) (full : blocks ≡ 1 + area + all
             ≡ firstNo (rowAsks c (t .rows o) ++ roomSums (editTouches (placeOn rs area) (edits o c) (t .rows)) (t .ledger))
         page-asks = rw (page-is, ← asks-same c (t .rows o)) (begun-same (pageAsks c (t .rows o .page)) _ _ (asks-numbered c (t .rows o .page)) (λ ok. ap firstNo (room ok)))
 
+      gap-is : isGap (placeOn rs area o) ≡ between (t .ledger .ranges) o
+      gap-is = gap-same (meaningOf l .blocks) area rs ranges-fit (1 + area) o ∙ ap (λ (r : List Range). between r o) (sym (ledger-ranges .0))
+
+      outside-is : isOutside (placeOn rs area o) ≡ beyond (t .ledger .ranges) o
+      outside-is = outside-same (meaningOf l .blocks) area rs ranges-fit (1 + area) o ∙ ap (λ (r : List Range). beyond r o) (sym (ledger-ranges .0))
+
       on-asks : firstNo (ownAsks (on o c) l) ≡ firstNo (plainAsks (on o c) t)
       unfolding ownAsks asks heldAsks plainAsks
-      on-asks = rw (address-is o, plain-places) (placed-same (placeOn rs area o) _ _ page-asks)
+      on-asks = rw (address-is o, plain-places, ← gap-is, ← outside-is) (placed-as (placeOn rs area o) _ _ page-asks)
 
       on-agrees : firstNo (ownAsks (on o c) l) ≡ 0 → Agrees (frameCall (on o c) l) (doneAnswer (on o c) l) (plainDone (on o c) t)
       unfolding frameCall doneAnswer plainDone atPlace
@@ -226,10 +234,6 @@ module _ (rs : List Range) (blocks area : ℕ) (full : blocks ≡ 1 + area + all
     kept-over : (f : ℕ) → over l f ≡ not (needed rs area (t .frames .kept) f)
     kept-over f = ap (λ (r : List Range). not (needed r (meaningOf l .area) (committedFrames l) f)) (b .follows .ranges-is) ∙ ap (λ (a : ℕ). not (needed rs a (committedFrames l) f)) (b .follows .area-is)
         ∙ ap not (needed-same rs area blocks full (committedFrames l) (t .frames .kept) (λ g low high x. reads-committed blocks area rs (meaningOf l) (l .card) (t .frames) (b .follows) g low high x) f)
-
-    ledger-ranges : (t .ledger .ranges ≡ rs) × (t .ledger .area ≡ area)
-    unfolding blank
-    ledger-ranges = (ap (λ (s : State). s .ranges) (b .ledger-is) ∙ b .follows .ranges-is, ap (λ (s : State). s .area) (b .ledger-is) ∙ b .follows .area-is)
 
     over-is : over l ≡ plainOver t
     over-is = λ i f. at f i

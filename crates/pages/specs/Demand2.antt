@@ -4,8 +4,8 @@
 -- one left. Then every answer is the plain machine's: a table of pages and counts under document 01's questions. And
 -- the card is the first one with the machine's blocks put down in turn. No call is answered 1, 2 or 3.
 --
--- The machine asks 12 to 14, 16, 17, 19 and 20 by a test or a sum of its own, and 10 and 28 of its own counts and its
--- own account of flushes. 9, 11, 15 and 18 are the same text on both sides: one that is wrong is wrong on both. Which
+-- The machine asks 9, 12 to 14, 16, 17 and 19 to 21 by a test or a sum of its own, and 10 and 28 of its own counts and
+-- its own account of flushes. 11, 15 and 18 are the same text on both sides: one that is wrong is wrong on both. Which
 -- changes a call makes is one list for both; the head of `Plain` says all that is shared.
 -- Assumes nothing.
 use Prim.Native.Nat.{ℕ}

@@ -1,26 +1,27 @@
 -- The plain machine of demand 2: tables of pages and counts, and a ledger of numbers. It begins with what a start
 -- shows; after that it sees no card, no memory and no record.
 --
--- It shares with the calls, of pages: the place of an OID (questions 21 and 9), which changes a call makes (Call: edits), the
--- frames behind them (Change: editFrames), and the form of a refusal. Of generations (recovery's Step, here without
+-- It shares with the calls, of pages: the place of an OID, which changes a call makes (Call: edits), the frames behind
+-- them (Change: editFrames), and the form of a refusal. Of generations (recovery's Step, here without
 -- bytes): what a change, a snapshot, a page-out and each kind of advance make of them, which entry M copies next, where
 -- the trailer stands, the blocks of directory and trailer, and which kinds write a block. Of the card: the ring, and how
 -- a header is laid out. Of migration: which frames of a table are empty pages (Needed), and how many entries count as
 -- passed over (Sums: passedTo). With the book it shares what a change makes of a page (Change: changed).
 --
--- Its own are: its other questions, 10, 11 and 15 in its own words (rowAsks), and k by the frames that a change touches;
+-- Its own are: its questions, 21 and 9 by the ranges alone (between, beyond), 10, 11 and 15 by a row (rowAsks), and k by
+-- the frames that a change touches;
 -- its answers; the flags; when a flush is due; which kind is next and whether one is (Sums: remainingWrites); the
 -- forecast (Sums: commitSum); the bytes of pages; by which table pages are empty.
 -- Assumes nothing.
 use Prim.Native.Nat.{ℕ, _+_}
 use lib.Dec.{leb, ltb, eqb}
 use lib.ListN.{length, replicate}
-use mathlib.Core.Bool.{Bool, true, false, cond, _||_, not}
+use mathlib.Core.Bool.{Bool, true, false, cond, _&&_, _||_, not}
 use mathlib.Core.List.{List, [], _∷_, _++_}
 use mathlib.Core.Option.{Option, none, some}
 use Rattle.card.specs.Header.{headerBlock}
 use Rattle.card.specs.Question.{Question, ask, firstNo}
-use Rattle.card.specs.Range.{locate}
+use Rattle.card.specs.Range.{Range, locate, lastEnd}
 use Rattle.card.specs.Ring.{ringAt}
 use Rattle.card.specs.declared.range.Address.{Address}
 use Rattle.card.specs.declared.range.Lookup.{Lookup}
@@ -29,7 +30,7 @@ use Rattle.pages.specs.Call.{PageCall, key, read, write, rescind, Call, 
 use Rattle.pages.specs.Change.{Change, put, empty, Edit, update, changed, atPlace, editFrames}
 use Rattle.pages.specs.Needed.{needed}
 use Rattle.pages.specs.Page.{Page, flagged, pageOf}
-use Rattle.pages.specs.Promise.{placed, refusal}
+use Rattle.pages.specs.Promise.{refusal}
 use Rattle.recovery.specs.Book.{FrameBook, markedOr, bookChange, bookSnapshot, bookWrote}
 use Rattle.recovery.specs.Contents.{Contents, FrameBytes}
 use Rattle.recovery.specs.Directory.{frameOf}
@@ -136,6 +137,17 @@ abbrev pub isNone : Option Contents → Bool
 isNone none = true
 isNone (some v) = false
 
+-- of an OID: does one range end at or below it, and the next begin above it? Is it below the first range, or at or above
+-- the last one's end?
+unfoldable pub between : List Range → ℕ → Bool
+between [] o = false
+between (r ∷ []) o = false
+between (r ∷ x ∷ xs) o = (leb (r .oid + r .pages) o && ltb o (x .oid)) || between (x ∷ xs) o
+
+unfoldable pub beyond : List Range → ℕ → Bool
+beyond [] o = true
+beyond (r ∷ rs) o = ltb o (r .oid) || leb (lastEnd r rs) o
+
 -- of a page, by its row
 unfoldable pub rowAsks : PageCall → Row → List Question
 rowAsks key r = []
@@ -145,7 +157,9 @@ rowAsks (rescind n) r = ask 10 (eqb (r .page .count) n) ∷ ask 15 (ltb n 429496
 
 unfoldable pub plainAsks : Call → Plain → List Question
 plainAsks (start m) t = []  -- the list has no start
-plainAsks (on o c) t = placed (plainAddress t o) (λ p. rowAsks c (t .rows o) ++ roomSums (editTouches (plainAddress t) (edits o c) (t .rows)) (t .ledger))
+plainAsks (on o c) t =
+    ask 21 (not (between (t .ledger .ranges) o)) ∷ ask 9 (not (beyond (t .ledger .ranges) o))
+    ∷ rowAsks c (t .rows o) ++ roomSums (editTouches (plainAddress t) (edits o c) (t .rows)) (t .ledger)
 plainAsks snapshot t = ask 16 (isNone (t .frames .marked)) ∷ ask 17 (t .changed) ∷ ask 18 (ltb (t .ledger .commit) 4294967295) ∷ []
 plainAsks pageOut t = ask 28 (not (isOwed (t .phase))) ∷ ask 19 (ltb 0 (length (t .ledger .pending .waiting)) || ltb 0 (length (t .ledger .current .waiting))) ∷ []
 plainAsks advance t = advanceSums (plainOver t) (ledgerOf t)
