@@ -12,7 +12,7 @@ use mathlib.Core.Logic.{_≢_, _⊎_, inl, inr, ⊎-elim}
 use mathlib.Core.Path.{_≡_, refl, ap, sym, _∙_, subst}
 use native.Mathlib.Omega.{arith}
 use Rattle.card.proofs.AllLaws.{all-join, all-map}
-use Rattle.card.proofs.LookupLaws.{Between, Beyond, Claim, lookup-tells, lookup-is}
+use Rattle.card.proofs.LookupLaws.{Between, Beyond, Claim, lookup-tells, lookup-is, Touching, touching-no-gap}
 use Rattle.card.proofs.QuestionLaws.{asked-yes, asked-no, first-among}
 use Rattle.card.proofs.Test.{both, joined}
 use Rattle.card.specs.Question.{Question, ask, firstNo}
@@ -73,6 +73,10 @@ module _ (o : ℕ) (c : PageCall) (l : Lent) (passes : firstNo (common l) ≡ 0)
       go (Located p) e = absurd (number-located p e .0 n)
       go Gap e = tells Gap e
       go Outside e = absurd (omega (arith, n, number-outside e))
+
+  -- so not where the ranges touch
+  pub touching-never : Touching (meaningOf l .ranges) → firstNo (asks (on o c) l) ≢ 21
+  touching-never t n = touching-no-gap (meaningOf l .ranges) o t (refused-21 n)
 
   pub refused-9 : firstNo (asks (on o c) l) ≡ 9 → Beyond (meaningOf l .ranges) o
   refused-9 n = go (addressOf l o) refl
