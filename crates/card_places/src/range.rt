@@ -6,7 +6,8 @@ ghost use mathlib.Core.Path.{_≡_};
 ghost use mathlib.Core.Bool.{_&&_};
 ghost use Prim.Native.Nat.{_+_, _≤_, _<_};
 ghost use lib.Dec.{leb, ltb};
-ghost use Rattle.card.specs.Range.{rangesOf, rangesFill, rangeBlocks, geometryFits, addressIn, someBelow, someAbove, missing, locate};
+ghost use Rattle.card.specs.Range.{rangesOf, rangesFill, rangeBlocks, geometryFits, addressIn};
+ghost use Rattle.card.specs.Range.{someBelow, someAbove, missing, locate};
 
 // The blocks of a range of n pages.
 pub fn blocks(n: usize) -> usize

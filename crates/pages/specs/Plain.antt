@@ -2,16 +2,15 @@
 -- shows; after that it sees no card, no memory and no record.
 --
 -- It shares with the calls, of pages: the place of an OID, which changes a call makes (Call: edits), the frames behind
--- them (Change: editFrames), and the form of a refusal. Of generations (recovery's Step, here without
--- bytes): what a change, a snapshot, a page-out and each kind of advance make of them, which entry M copies next, where
--- the trailer stands, the blocks of directory and trailer, and which kinds write a block. Of the card: the ring, and how
--- a header is laid out. Of migration: which frames of a table are empty pages (Needed), and how many entries count as
--- passed over (Sums: passedTo). With the book it shares what a change makes of a page (Change: changed).
+-- them (Change: editFrames), and the form of a refusal. Of generations (recovery's Step, here without bytes): what a
+-- change, a snapshot, a page-out and each kind of advance make of them, which entry M copies next, where the trailer
+-- stands, the blocks of directory and trailer, and which kinds write a block. Of the card: the ring, and how a header is
+-- laid out. Of migration: which frames of a table are empty pages (Needed), and how many entries count as passed over
+-- (Sums: passedTo). With the book it shares what a change makes of a page (Change: changed).
 --
 -- Its own are: its questions, 21 and 9 by the ranges alone (between, beyond), 10, 11 and 15 by a row (rowAsks), and k by
--- the frames that a change touches;
--- its answers; the flags; when a flush is due; which kind is next and whether one is (Sums: remainingWrites); the
--- forecast (Sums: commitSum); the bytes of pages; by which table pages are empty.
+-- the frames that a change touches; its answers; the flags; when a flush is due; which kind is next and whether one is
+-- (Sums: remainingWrites); the forecast (Sums: commitSum); the bytes of pages; by which table pages are empty.
 -- Assumes nothing.
 use Prim.Native.Nat.{ℕ, _+_}
 use lib.Dec.{leb, ltb, eqb}
@@ -130,8 +129,8 @@ plainOver t f = not (needed (t .ledger .ranges) (t .ledger .area) (t .frames .ke
 abbrev pub plainPast : Plain → Plain
 plainPast t = record { rows = t .rows; changed = t .changed; phase = t .phase; ledger = passTo (passedTo (plainOver t) (ledgerOf t)) (t .ledger); frames = t .frames }
 
--- ---- questions: 21 and 9 by the ranges, 10, 11, 15 and k by the rows, 12 to 14 and 20 by sums over the ledger, 16 to 19
--- and 28 by what is marked, changed, committed, waiting and flushed; never 1, 2 or 3
+-- ---- questions: 21 and 9 by the ranges, 10, 11, 15 and k by the rows, 12 to 14 and 20 by sums over the ledger, 16 to
+-- 19 and 28 by what is marked, changed, committed, waiting and flushed; never 1, 2 or 3
 
 abbrev pub isNone : Option Contents → Bool
 isNone none = true

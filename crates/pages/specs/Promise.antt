@@ -76,7 +76,6 @@ callFrames o c l = editFrames (addressOf l) (edits o c) (presentFrames l)
 
 -- ---- questions
 
--- 21: does the OID lie in no gap between two ranges? 9: is it neither below the first nor above the last? Then the rest
 abbrev pub isGap : Lookup → Bool
 isGap (Located p) = false
 isGap Gap = true
@@ -87,6 +86,7 @@ isOutside (Located p) = false
 isOutside Gap = false
 isOutside Outside = true
 
+-- 21: does the OID lie in no gap between two ranges? 9: is it neither below the first nor above the last? Then the rest
 unfoldable pub placed : Lookup → (Address → List Question) → List Question
 placed a rest = ask 21 (not (isGap a)) ∷ ask 9 (not (isOutside a)) ∷ atPlace [] a rest
 

@@ -1,5 +1,5 @@
-// The page that a call names: its place (questions 21 and 9), question 10 with the one that is asked behind it, 11 or 15, and
-// its zero flag.
+// The page that a call names: its place (questions 21 and 9), question 10 with the one that is asked behind it, 11 or
+// 15, and its zero flag.
 use card::range::Address;
 use card::range::Lookup;
 use card_places::pot;
