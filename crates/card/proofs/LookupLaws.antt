@@ -162,19 +162,16 @@ not-later : {A : Type 0} (r : Range) (rs : List Range) (low start oid : ℕ) (p 
 not-later r [] low start oid p h l f = absurd f
 not-later r (x ∷ xs) low start oid p h l f = absurd (omega (arith, l, h .3 .0, has-within x xs (r .oid + r .pages) start oid p (h .3) f .0))
 
-has-not-between : (r : Range) (rs : List Range) (low start oid : ℕ) (p : Address) → RangesRise low (r ∷ rs) → HasAt (r ∷ rs) start oid p → Between (r ∷ rs) oid → ⊥
-has-not-between r [] low start oid p h f q = q
-has-not-between r (x ∷ xs) low start oid p h f q = ⊎-elim
+has-not-between : (rs : List Range) (low start oid : ℕ) (p : Address) → RangesRise low rs → HasAt rs start oid p → Between rs oid → ⊥
+has-not-between [] low start oid p h f q = q
+has-not-between (r ∷ []) low start oid p h f q = q
+has-not-between (r ∷ x ∷ xs) low start oid p h f q = ⊎-elim
     (λ i. ⊎-elim (λ j. omega (arith, i .1, j .0)) (λ k. omega (arith, i .1, h .3 .0, between-within x xs (r .oid + r .pages) oid (h .3) k .0)) q)
     (λ n. ⊎-elim
     (λ j. omega (arith, j .1, has-within x xs (r .oid + r .pages) (start + rangeBlocks (r .pages)) oid p (h .3) n .0))
-    (λ k. has-not-between x xs (r .oid + r .pages) (start + rangeBlocks (r .pages)) oid p (h .3) n k)
+    (λ k. has-not-between (x ∷ xs) (r .oid + r .pages) (start + rangeBlocks (r .pages)) oid p (h .3) n k)
     q)
     f
-
-not-both : (rs : List Range) (low start oid : ℕ) (p : Address) → RangesRise low rs → HasAt rs start oid p → Between rs oid → ⊥
-not-both [] low start oid p h f q = q
-not-both (r ∷ rs) low start oid p h f q = has-not-between r rs low start oid p h f q
 
 one-place : (rs : List Range) (low start oid : ℕ) (p q : Address) → RangesRise low rs → HasAt rs start oid p → HasAt rs start oid q → p ≡ q
 one-place [] low start oid p q h f k = absurd f
@@ -188,9 +185,9 @@ one-place (r ∷ rs) low start oid p q h f k = ⊎-elim
 
 one-claim : (rs : List Range) (low start oid : ℕ) → RangesRise low rs → (x y : Lookup) → Claim rs start oid x → Claim rs start oid y → x ≡ y
 one-claim rs low start oid h (Located p) (Located q) c d = ap Located (one-place rs low start oid p q h c d)
-one-claim rs low start oid h (Located p) Gap c d = absurd (not-both rs low start oid p h c d)
+one-claim rs low start oid h (Located p) Gap c d = absurd (has-not-between rs low start oid p h c d)
 one-claim rs low start oid h (Located p) Outside c d = absurd (has-not-beyond rs low start oid p h c d)
-one-claim rs low start oid h Gap (Located q) c d = absurd (not-both rs low start oid q h d c)
+one-claim rs low start oid h Gap (Located q) c d = absurd (has-not-between rs low start oid q h d c)
 one-claim rs low start oid h Gap Gap c d = refl
 one-claim rs low start oid h Gap Outside c d = absurd (between-not-beyond rs low oid h c d)
 one-claim rs low start oid h Outside (Located q) c d = absurd (has-not-beyond rs low start oid q h d c)

@@ -4,7 +4,7 @@
 use Prim.Native.Nat.{ℕ, zero, suc, _+_, _-_, _≤_, _<_, zero-le, suc-le-suc}
 use borrow.Author.Tests.{eqb-true, not-true, not-false}
 use lib.Dec.{eqb}
-use mathlib.Core.Bool.{Bool, true, false, cond, _&&_, false≢true, not, and-true, and-false}
+use mathlib.Core.Bool.{Bool, true, false, cond, _&&_, _||_, false≢true, not, and-true, and-false}
 use mathlib.Core.Logic.{_≢_, _⊎_, inl, inr, ⊎-elim}
 use mathlib.Core.Path.{_≡_, refl, sym, _∙_}
 use native.Mathlib.Nat.{eq-or-lt-of-le}
@@ -25,6 +25,11 @@ both false b e = absurd (false≢true e)
 pub joined : (a b : Bool) → a ≡ true → b ≡ true → a && b ≡ true
 joined true b p q = q
 joined false b p q = p
+
+-- one of two tests passed
+pub either : (a b : Bool) → a || b ≡ true → (a ≡ true) ⊎ (b ≡ true)
+either true b e = inl refl
+either false b e = inr e
 
 and-swap : (a b c d : Bool) → (a && b) && (c && d) ≡ (a && c) && (b && d)
 and-swap true true c d = refl

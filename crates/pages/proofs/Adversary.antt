@@ -3,7 +3,7 @@
 -- in recovery's Adversary.
 -- Assumes nothing.
 use Prim.Native.Nat.{ℕ}
-use mathlib.Core.Bool.{Bool, true, false, _||_, false≢true}
+use mathlib.Core.Bool.{Bool, true, false, _||_, false≢true, or-true, or-false}
 use mathlib.Core.List.{List}
 use mathlib.Core.Option.{Option, none, some}
 use mathlib.Core.Path.{_≡_, refl, ap, sym, _∙_, subst}
@@ -12,7 +12,6 @@ use Rattle.card.specs.Question.{firstNo}
 use Rattle.frames.specs.Promise as frames
 use Rattle.frames.specs.Promise.{Lent, lent}
 use Rattle.pages.proofs.AnswerLaws.{block-done, block-none, kept-done, kept-refused}
-use Rattle.pages.proofs.RunLaws.{or-false}
 use Rattle.pages.specs.Book.{called, cutIn, cut, isFlush}
 use Rattle.pages.specs.Call.{Call, start, Answer, refused, done, counted, filled, wrote, foretold}
 use Rattle.pages.specs.Demand3.{World, lentTo, driveAfter, Step, calls, cutWithin, cutBetween}
@@ -67,10 +66,6 @@ pub flush-completes : (A : Adversary) (w : World) (c : Call) (n : ℕ) (l l′ :
 unfolding after isFlush
 flush-completes A w c n l l′ e k = subst (Step A (called c (wrote flush n)) w) same (calls c (wrote flush n) w l l′ e k)
   where
-    or-true : (x : Bool) → (x || true) ≡ true
-    or-true true = refl
-    or-true false = refl
-
     same : after l′ (settled (seen (w .drive))) (w .complete || true) ≡ after l′ (settled (seen (w .drive))) true
     same = rw (or-true (w .complete)) refl
 

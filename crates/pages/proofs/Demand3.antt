@@ -4,7 +4,7 @@ use Prim.Native.Nat.{ℕ, zero, suc, _+_, _/_, _<_}
 use borrow.Author.Tests.{eq-eqb}
 use lib.Dec.{eqb}
 use lib.ListN.{length}
-use mathlib.Core.Bool.{true, false, false≢true}
+use mathlib.Core.Bool.{true, false, false≢true, or-false}
 use mathlib.Core.List.{List, [], _∷_}
 use mathlib.Core.Option.{none, some}
 use mathlib.Core.Path.{_≡_, refl, ap, sym, _∙_}
@@ -24,7 +24,7 @@ use Rattle.frames.proofs.Run.{startLent, stays, firstWorld, Serves}
 use Rattle.frames.specs.Promise.{Lent, lent, meaningOf, common, FrameAnswer, FrameKept}
 use Rattle.pages.proofs.AnswerLaws.{asked-own, on-located, asks-numbered, change-none, block-done, kept-done, lowered}
 use Rattle.pages.proofs.FormatLaws.{format-area, format-ranges, format-accepted, format-shows, format-done}
-use Rattle.pages.proofs.RunLaws.{Beside, or-false, serves, address-is, page-shown, called-beside, run-beside, spoilt-run, needs}
+use Rattle.pages.proofs.RunLaws.{Beside, serves, address-is, page-shown, called-beside, run-beside, spoilt-run, needs}
 use Rattle.pages.specs.Book.{Book, Event, formatBook, isDone, isFlush, told, bookAfter}
 use Rattle.pages.specs.Call.{PageCall, key, read, start, on, Answer, done, counted, filled, pageAsks, edits, pageAnswer}
 use Rattle.pages.specs.Change.{applied, atPlace, editFrames}

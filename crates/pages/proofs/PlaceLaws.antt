@@ -2,19 +2,19 @@
 -- the OID lies between two ranges, and 9 exactly where it is below the first or above the last; and the plain machine
 -- asks the same in its own words.
 -- Assumes nothing.
-use Prim.Native.Nat.{ℕ, _+_}
+use Prim.Native.Nat.{ℕ, _+_, _≤_, _<_}
 use borrow.Author.Tests.{leb-true, ltb-true, le-leb, lt-ltb}
 use lib.Dec.{leb, ltb}
 use lib.ListN.{length}
-use mathlib.Core.Bool.{Bool, true, false, not, _&&_, _||_, false≢true}
+use mathlib.Core.Bool.{true, false, not, _&&_, false≢true, or-true}
 use mathlib.Core.List.{List, [], _∷_, _++_}
-use mathlib.Core.Logic.{_≢_, _⊎_, inl, inr, ⊎-elim}
+use mathlib.Core.Logic.{_≢_, inl, inr, ⊎-elim}
 use mathlib.Core.Path.{_≡_, refl, ap, sym, _∙_, subst}
 use native.Mathlib.Omega.{arith}
 use Rattle.card.proofs.AllLaws.{all-join, all-map}
 use Rattle.card.proofs.LookupLaws.{Between, Beyond, Claim, lookup-tells, lookup-is, Touching, touching-no-gap}
 use Rattle.card.proofs.QuestionLaws.{asked-yes, asked-no, first-among}
-use Rattle.card.proofs.Test.{both, joined}
+use Rattle.card.proofs.Test.{both, either}
 use Rattle.card.specs.Question.{Question, ask, firstNo}
 use Rattle.card.specs.Range.{Range, geometryFits, locate, lastEnd}
 use Rattle.card.specs.declared.range.Address.{Address}
@@ -27,6 +27,7 @@ use Rattle.pages.specs.Call.{PageCall, on, pageAsks}
 use Rattle.pages.specs.Plain.{between, beyond}
 use Rattle.pages.specs.Promise.{addressOf, presentPage, callFrames, isGap, isOutside, placed, asks}
 use Rattle.record.proofs.Held.{held}
+use Rattle.record.proofs.Tests.{same-answer}
 use Rattle.recovery.specs.Questions.{roomAsks}
 
 -- ---- what the calls answer
@@ -88,17 +89,6 @@ module _ (o : ℕ) (c : PageCall) (l : Lent) (passes : firstNo (common l) ≡ 0)
 
 -- ---- the machine's tests
 
-either : (a b : Bool) → a || b ≡ true → (a ≡ true) ⊎ (b ≡ true)
-either true b e = inl refl
-either false b e = inr e
-
-or-left : (a b : Bool) → a ≡ true → a || b ≡ true
-or-left a b e = rw e
-
-or-right : (a b : Bool) → b ≡ true → a || b ≡ true
-or-right true b e = refl
-or-right false b e = e
-
 between-tells : (rs : List Range) (o : ℕ) → between rs o ≡ true → Between rs o
 unfolding between
 between-tells [] o e = absurd (false≢true e)
@@ -113,8 +103,8 @@ unfolding between
 between-is [] o q = absurd q
 between-is (r ∷ []) o q = absurd q
 between-is (r ∷ x ∷ xs) o q = ⊎-elim
-    (λ h. or-left _ (between (x ∷ xs) o) (joined _ _ (le-leb _ _ (h .0)) (lt-ltb _ _ (h .1))))
-    (λ k. or-right (leb (r .oid + r .pages) o && ltb o (x .oid)) _ (between-is (x ∷ xs) o k))
+    (λ (h : (r .oid + r .pages ≤ o) × (o < x .oid)). rw (le-leb (r .oid + r .pages) o (h .0), lt-ltb o (x .oid) (h .1)))
+    (λ k. rw (between-is (x ∷ xs) o k) (or-true (leb (r .oid + r .pages) o && ltb o (x .oid))))
     q
 
 beyond-tells : (rs : List Range) (o : ℕ) → beyond rs o ≡ true → Beyond rs o
@@ -125,38 +115,28 @@ beyond-tells (r ∷ rs) o e = ⊎-elim (λ h. inl (ltb-true _ _ h)) (λ k. inr (
 beyond-is : (rs : List Range) (o : ℕ) → Beyond rs o → beyond rs o ≡ true
 unfolding beyond
 beyond-is [] o q = refl
-beyond-is (r ∷ rs) o q = ⊎-elim (λ h. or-left _ (leb (lastEnd r rs) o) (lt-ltb _ _ h)) (λ k. or-right (ltb o (r .oid)) _ (le-leb _ _ k)) q
+beyond-is (r ∷ rs) o q = ⊎-elim (λ h. rw (lt-ltb o (r .oid) h)) (λ k. rw (le-leb (lastEnd r rs) o k) (or-true (ltb o (r .oid)))) q
 
-not-so : (t : Bool) → (t ≡ true → ⊥) → t ≡ false
-not-so true n = absurd (n refl)
-not-so false n = refl
+gap-only : (x : Lookup) → isGap x ≡ true → x ≡ Gap
+gap-only (Located p) e = absurd (false≢true e)
+gap-only Gap e = refl
+gap-only Outside e = absurd (false≢true e)
+
+outside-only : (x : Lookup) → isOutside x ≡ true → x ≡ Outside
+outside-only (Located p) e = absurd (false≢true e)
+outside-only Gap e = absurd (false≢true e)
+outside-only Outside e = refl
 
 module _ (blocks area : ℕ) (rs : List Range) (g : geometryFits blocks area rs ≡ true) (start o : ℕ) where
-  abbrev found : Lookup
-  found = locate rs start o
-
-  -- an answer that is another one
-  gap-not : (x : Lookup) → found ≡ x → (isGap x ≡ false) → between rs o ≡ false
-  gap-not x e n = not-so (between rs o) (λ t. false≢true (sym n ∙ ap isGap (sym e ∙ lookup-is blocks area rs g start o Gap (between-tells rs o t))))
-
-  outside-not : (x : Lookup) → found ≡ x → (isOutside x ≡ false) → beyond rs o ≡ false
-  outside-not x e n = not-so (beyond rs o) (λ t. false≢true (sym n ∙ ap isOutside (sym e ∙ lookup-is blocks area rs g start o Outside (beyond-tells rs o t))))
-
   pub gap-same : isGap (locate rs start o) ≡ between rs o
-  gap-same = go (locate rs start o) refl
-    where
-      go : (x : Lookup) → locate rs start o ≡ x → isGap x ≡ between rs o
-      go (Located p) e = sym (gap-not (Located p) e refl)
-      go Gap e = sym (between-is rs o (lookup-tells blocks area rs g start o Gap e))
-      go Outside e = sym (gap-not Outside e refl)
+  gap-same = same-answer (isGap (locate rs start o)) (between rs o)
+      (λ t. between-is rs o (lookup-tells blocks area rs g start o Gap (gap-only (locate rs start o) t)))
+      (λ t. ap isGap (lookup-is blocks area rs g start o Gap (between-tells rs o t)))
 
   pub outside-same : isOutside (locate rs start o) ≡ beyond rs o
-  outside-same = go (locate rs start o) refl
-    where
-      go : (x : Lookup) → locate rs start o ≡ x → isOutside x ≡ beyond rs o
-      go (Located p) e = sym (outside-not (Located p) e refl)
-      go Gap e = sym (outside-not Gap e refl)
-      go Outside e = sym (beyond-is rs o (lookup-tells blocks area rs g start o Outside e))
+  outside-same = same-answer (isOutside (locate rs start o)) (beyond rs o)
+      (λ t. beyond-is rs o (lookup-tells blocks area rs g start o Outside (outside-only (locate rs start o) t)))
+      (λ t. ap isOutside (lookup-is blocks area rs g start o Outside (beyond-tells rs o t)))
 
 -- questions of a place begin as those of an OID that passes the same two tests
 pub placed-as : (a : Lookup) (rest : Address → List Question) (qs : List Question) → ((p : Address) → a ≡ Located p → firstNo (rest p) ≡ firstNo qs)

@@ -2,12 +2,13 @@
 -- Assumes nothing.
 use Prim.Native.Nat.{ℕ, _+_, _/_, _<_}
 use lib.ListN.{length}
-use mathlib.Core.Bool.{Bool, true, false, cond, _||_, not}
+use mathlib.Core.Bool.{Bool, true, false, cond, _||_, not, or-false}
 use mathlib.Core.List.{List}
-use mathlib.Core.Logic.{_≢_, _⊎_, inl, inr, ⊎-elim}
+use mathlib.Core.Logic.{_≢_, ⊎-elim}
 use mathlib.Core.Option.{Option, none, some}
 use mathlib.Core.Path.{_≡_, refl, ap, sym, _∙_, subst}
 use native.Mathlib.Decide.{ℕ-discrete}
+use Rattle.card.proofs.Test.{either}
 use Rattle.card.specs.Block.{blockAt, putBlock}
 use Rattle.card.specs.Bytes.{All}
 use Rattle.card.specs.Header.{headerOn}
@@ -100,14 +101,6 @@ seen-after a o u v e = go (isFlush a) o
 -- and the drive, where it is flushed
 flushed-after : (a : Answer) (o : Option BlockWrite) (u v : Drive) → seen u ≡ seen v → isFlush a ≡ true → driveAfter a o u ≡ driveAfter a o v
 flushed-after a o u v e t = rw t (ap settled e)
-
-pub or-false : (x : Bool) → (x || false) ≡ x
-or-false true = refl
-or-false false = refl
-
-either : (x y : Bool) → (x || y) ≡ true → (x ≡ true) ⊎ (y ≡ true)
-either true y e = inl refl
-either false y e = inr e
 
 module _ (m₀ card₀ : List ℕ) (accepted : firstNo (startAsks m₀ card₀) ≡ 0) where
   -- ---- the first card's geometry

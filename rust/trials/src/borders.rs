@@ -34,7 +34,7 @@ pub const BORDERS: [Border; 14] = [
     border("last in a gap", 21, |r, oid| {
         gap(r, |begin, end| begin < oid && oid + 1 == end)
     }),
-    border("a gap by itself", 21, |r, oid| {
+    border("alone in a gap", 21, |r, oid| {
         gap(r, |begin, end| begin == oid && oid + 1 == end)
     }),
     border("first after a gap", FOUND, |r, oid| {
