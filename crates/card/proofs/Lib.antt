@@ -7,7 +7,6 @@ pub mod RingLaws
 pub mod RangeLaws
 pub mod AddressLaws
 pub mod LookupLaws
-pub mod Table
 pub mod PotLaws
 pub mod HeaderLaws
 pub mod TrailerLaws
