@@ -1,14 +1,14 @@
--- Blocks of the card, byte by byte, as document 01 lays them down: two headers, a trailer, a directory block, a pot; and
+-- Blocks of the card, byte by byte, as document 01 lays them down: two headers, a trailer, a directory block, pots; and
 -- OIDs at the borders of ranges. The definitions stand on both sides of demand 2, so that a wrong layout or place would
 -- be wrong on both; here it is refused.
 -- Assumes nothing.
 use lib.ListN.{take, drop, length, replicate}
 use mathlib.Core.List.{List, [], _∷_, _++_}
 use mathlib.Core.Path.{_≡_, refl}
-use Rattle.card.specs.Bytes.{pairs, u32Bytes, words, pad}
+use Rattle.card.specs.Bytes.{pairs, patch, u32Bytes, words, pad}
 use Rattle.card.specs.Directory.{dirBlock}
 use Rattle.card.specs.Header.{headerBlock}
-use Rattle.card.specs.Pot.{freshEntries, freshPot}
+use Rattle.card.specs.Pot.{putCount, putFlags, freshEntries, freshPot}
 use Rattle.card.specs.Range.{Range, someBelow, someAbove, missing, locateOr, locate}
 use Rattle.card.specs.Trailer.{trailerBlock}
 use Rattle.card.specs.declared.range.Lookup.the-variants.{Located, Gap, Outside}
@@ -44,6 +44,12 @@ pub pot-bytes : (take 10 freshPot ≡ 0 ∷ 0 ∷ 0 ∷ 0 ∷ 1 ∷ 0 ∷ 0 ∷ 
     × (drop 505 freshPot ≡ 0 ∷ 0 ∷ 0 ∷ 0 ∷ 1 ∷ 0 ∷ 0 ∷ []) × (length freshPot ≡ 512)
 unfolding freshPot freshEntries
 pot-bytes = (refl, refl, refl)
+
+-- in a formatted pot count 258 of entry 1, and flags 3 of the last entry
+pub entry-bytes : (take 10 (putCount freshPot 1 258) ≡ 0 ∷ 0 ∷ 0 ∷ 0 ∷ 1 ∷ 2 ∷ 1 ∷ 0 ∷ 0 ∷ 1 ∷ [])
+    × (drop 500 (putFlags freshPot 101 3) ≡ 0 ∷ 0 ∷ 0 ∷ 0 ∷ 1 ∷ 0 ∷ 0 ∷ 0 ∷ 0 ∷ 3 ∷ 0 ∷ 0 ∷ [])
+unfolding freshPot freshEntries putCount putFlags u32Bytes patch
+entry-bytes = (refl, refl)
 
 -- OIDs 10 to 14 and 20 to 24, on a card with A 8: nothing at 9 and 25, a gap at 15 and 19
 abbrev pub apart : List Range
