@@ -66,12 +66,12 @@ stands (Permᴰ.trans d k) as' bs w e =
     (t.0, t.1, t.2, Permᴰ.trans r.3 t.3)
 
 -- the order in which they were made does not matter
-any_order : {us ws : List BlockWrite} (c' c : List ℕ) → Permᴰ us ws → Left c' us c → Left c' ws c
-any_order {us} {ws} c' c p (stopped xs d e) = stopped ws c e
-any_order {us} {ws} c' c p (put xs as' bs w d e l) =
+any_order : (c' : List ℕ) {us ws : List BlockWrite} (c : List ℕ) → Permᴰ us ws → Left c' us c → Left c' ws c
+any_order c' {us} {ws} c p (stopped xs d e) = stopped ws c e
+any_order c' {us} {ws} c p (put xs as' bs w d e l) =
     let r = stands p as' bs w e in
     put ws r.0 r.1 w c r.2 (any_order c' (put_block c w.block w.bytes) r.3 l)
-any_order {us} {ws} c' c p (torn xs as' bs w d x e low long is) = let r = stands p as' bs w e in torn ws r.0 r.1 w c x r.2 low long is
+any_order c' {us} {ws} c p (torn xs as' bs w d x e low long is) = let r = stands p as' bs w e in torn ws r.0 r.1 w c x r.2 low long is
 
 -- the first ones of a list are put down
 put_first : (c' : List ℕ) (ts rs : List BlockWrite) (c : List ℕ) → Left c' rs (put_all ts c) → Left c' (ts ++ rs) c
