@@ -19,6 +19,8 @@ NAME = r"[^\s(){}.;,@\"«»`:]+"
 DECL = re.compile(
     r"(?m)^( *)((?:abbrev |unfoldable |pub |ruleset )*)(" + NAME + r")((?: [({][^(){}\n]*[)}])*) :(?= )"
 )
+# Several names of one type, as constructors and fields may stand.
+SEVERAL = re.compile(r"(?m)^ +(?:pub )?((?:" + NAME + r" )+" + NAME + r") :(?= )")
 OPERATOR = re.compile(r"◌|^[^\w]")
 # Names of the library that a dash may join, beside the repository's own definitions.
 LIBRARY = set("length map take drop get_or set reverse replicate append sum cond All".split())
@@ -59,6 +61,10 @@ def declared(fs):
             name = m[3]
             if not OPERATOR.search(name) and name not in ("go", "where"):
                 found[name].add(f)
+        for m in SEVERAL.finditer(code_of(read(f))):
+            for name in m[1].split():
+                if not OPERATOR.search(name) and re.search(r"[a-z][A-Z]|-", name) and "let" not in m[1].split():
+                    found[name].add(f)
     return found
 
 

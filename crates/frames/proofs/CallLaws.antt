@@ -14,7 +14,7 @@ use Rattle.card.specs.Block.{whole}
 use Rattle.card.specs.Question.{first_no, card_asks}
 use Rattle.frames.proofs.KeepLaws.{kept_done, kept_refused, numbered-done, refused_by}
 use Rattle.frames.proofs.ReadyLaws.{common_passed, common_refused}
-use Rattle.frames.specs.Promise.{lent, common_asks, start, snapshot, pageOut, refused, wrote, asks, done_answer, done_write, after, FrameKept, numbered}
+use Rattle.frames.specs.Promise.{lent, common_asks, start, snapshot, page_out, refused, wrote, asks, done_answer, done_write, after, FrameKept, numbered}
 use Rattle.frames.specs.Parts.{WriteDone, StepDone, Started}
 use Rattle.frames.specs.declared.answer.Wrote.{Wrote}
 use Rattle.record.proofs.SoundLaws.{notes_length, queue_length}
@@ -27,11 +27,11 @@ use Rattle.recovery.specs.Step.{page, pending_to, current_to, after_snapshot, ou
 -- ---- page-out
 
 module _ (s : Store) (m c : List ℕ) where
-  pub page_out_common : (n : ℕ) → n ≡ first_no (common_asks s (length m) (length c)) → n ≢ 0 → FrameKept pageOut (lent s m c) (refused n) (lent s m c)
-  page_out_common n e z = kept_refused pageOut (lent s m c) n (unfold asks in (common_refused s (length m) (length c) _ (λ q. z (e ∙ q)) ∙ sym e)) z
+  pub page_out_common : (n : ℕ) → n ≡ first_no (common_asks s (length m) (length c)) → n ≢ 0 → FrameKept page_out (lent s m c) (refused n) (lent s m c)
+  page_out_common n e z = kept_refused page_out (lent s m c) n (unfold asks in (common_refused s (length m) (length c) _ (λ q. z (e ∙ q)) ∙ sym e)) z
 
   module _ (passed : first_no (common_asks s (length m) (length c)) ≡ 0) where
-    asked : first_no (asks pageOut (lent s m c)) ≡ first_no (page_out_asks (state_of s m))
+    asked : first_no (asks page_out (lent s m c)) ≡ first_no (page_out_asks (state_of s m))
     unfolding asks
     asked = common_passed s (length m) (length c) (page_out_asks (state_of s m)) passed
 
@@ -42,8 +42,8 @@ module _ (s : Store) (m c : List ℕ) where
     behind = queue_length s m (waits s.pending) (waits s.current)
 
     -- a flush is owed: 28
-    pub page_out_owed : s.phase ≡ 2 → FrameKept pageOut (lent s m c) (refused 28) (lent s m c)
-    page_out_owed o = kept_refused pageOut (lent s m c) 28 (asked ∙ no) (λ e. omega (arith, e))
+    pub page_out_owed : s.phase ≡ 2 → FrameKept page_out (lent s m c) (refused 28) (lent s m c)
+    page_out_owed o = kept_refused page_out (lent s m c) 28 (asked ∙ no) (λ e. omega (arith, e))
       where
         no : first_no (page_out_asks (state_of s m)) ≡ 28
         no = unfold page_out_asks phase_of in (asked_no 28 _ _ (rw o refl))
@@ -53,24 +53,24 @@ module _ (s : Store) (m c : List ℕ) where
       none_owed = rw calm refl
 
       -- none waits: 19
-      pub page_out_none : s.pending.taken ≤ s.pending.down → s.current.taken ≤ s.current.down → FrameKept pageOut (lent s m c) (refused 19) (lent s m c)
-      page_out_none p q = kept_refused pageOut (lent s m c) 19 (asked ∙ no) (λ e. omega (arith, e))
+      pub page_out_none : s.pending.taken ≤ s.pending.down → s.current.taken ≤ s.current.down → FrameKept page_out (lent s m c) (refused 19) (lent s m c)
+      page_out_none p q = kept_refused page_out (lent s m c) 19 (asked ∙ no) (λ e. omega (arith, e))
         where
           no : first_no (page_out_asks (state_of s m)) ≡ 19
           no = unfold page_out_asks in (asked_yes 28 _ _ none_owed ∙ asked_no 19 _ [] (le-ltb 0 (length (queue_of s m 0 (waits s.pending)) + length (queue_of s m (waits s.pending) (waits s.current))) (omega (arith, waiting, behind, p, q))))
 
-      yes : 0 < waits s.pending + waits s.current → first_no (asks pageOut (lent s m c)) ≡ 0
+      yes : 0 < waits s.pending + waits s.current → first_no (asks page_out (lent s m c)) ≡ 0
       yes h = asked ∙ (unfold page_out_asks in (asked_yes 28 _ _ none_owed ∙ asked_yes 19 _ [] (lt-ltb 0 (length (queue_of s m 0 (waits s.pending)) + length (queue_of s m (waits s.pending) (waits s.current))) (omega (arith, waiting, behind, h))) ∙ none_asked))
 
       -- done: the block and the state are page-out's
       out_done : (r : Wrote) (card' : List ℕ) → 0 < waits s.pending + waits s.current → WriteDone (page_out_write (state_of s m)) (after_page_out (state_of s m)) m c r card'
-          → FrameKept pageOut (lent s m c) (wrote page r.block) (lent r.store m card')
+          → FrameKept page_out (lent s m c) (wrote page r.block) (lent r.store m card')
       unfolding done_answer done_write after
-      out_done r card' h w = kept_done pageOut (lent s m c) (lent r.store m card') (wrote page r.block) (yes h) (ap (wrote page) w.block_is) w.card_is w.meaning w.together refl
+      out_done r card' h w = kept_done page_out (lent s m c) (lent r.store m card') (wrote page r.block) (yes h) (ap (wrote page) w.block_is) w.card_is w.meaning w.together refl
 
       pub page_out_pending : (r : Wrote) (card' : List ℕ) → s.pending.down < s.pending.taken
           → WriteDone (out_write s.geometry.area (state_of s m).pending) (pending_to (out_of (state_of s m).pending) s.tail (state_of s m)) m c r card'
-          → FrameKept pageOut (lent s m c) (wrote page r.block) (lent r.store m card')
+          → FrameKept page_out (lent s m c) (wrote page r.block) (lent r.store m card')
       page_out_pending r card' p w = out_done r card' (omega arith) (due (lt-ltb 0 (length (queue_of s m 0 (waits s.pending))) (omega (arith, waiting, p))))
         where
           due : ltb 0 (length (queue_of s m 0 (waits s.pending))) ≡ true → WriteDone (page_out_write (state_of s m)) (after_page_out (state_of s m)) m c r card'
@@ -78,7 +78,7 @@ module _ (s : Store) (m c : List ℕ) where
 
       pub page_out_current : (r : Wrote) (card' : List ℕ) → s.pending.taken ≤ s.pending.down → s.current.down < s.current.taken
           → WriteDone (out_write s.geometry.area (state_of s m).current) (current_to (out_of (state_of s m).current) (state_of s m)) m c r card'
-          → FrameKept pageOut (lent s m c) (wrote page r.block) (lent r.store m card')
+          → FrameKept page_out (lent s m c) (wrote page r.block) (lent r.store m card')
       page_out_current r card' p q w = out_done r card' (omega arith) (due (le-ltb 0 (length (queue_of s m 0 (waits s.pending))) (omega (arith, waiting, p))))
         where
           due : ltb 0 (length (queue_of s m 0 (waits s.pending))) ≡ false → WriteDone (page_out_write (state_of s m)) (after_page_out (state_of s m)) m c r card'

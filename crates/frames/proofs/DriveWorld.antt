@@ -16,7 +16,7 @@ use Rattle.frames.proofs.KeepLaws.{outcome-done, outcome_refused, refused_tells}
 use Rattle.frames.proofs.ReadyLaws.{common_both}
 use Rattle.frames.proofs.Run.{told, before_told, drive_told, Asked}
 use Rattle.frames.proofs.WorldLaws.{done_keeps, told_refused, zeros_refused, advance_due_lem, Standing, idle, live, LentOk, done-common}
-use Rattle.frames.specs.Promise.{Lent, lent, meaning_of, common, FrameCall, start, change, snapshot, pageOut, advance, FrameAnswer, refused, asks, advance_answer, advance_write, advanced, done_answer, done_write, after, outcome, handed_back, FrameKept, past}
+use Rattle.frames.specs.Promise.{Lent, lent, meaning_of, common, FrameCall, start, change, snapshot, page_out, advance, FrameAnswer, refused, asks, advance_answer, advance_write, advanced, done_answer, done_write, after, outcome, handed_back, FrameKept, past}
 use Rattle.record.specs.Meaning.{zero_store}
 use Rattle.recovery.proofs.DriveLaws.{seen-written}
 use Rattle.recovery.proofs.Persists.{Preserved, Persists, seen_drive, persists_preserved, preserved_stored, persists_start, preserved_cut, persists_change, persists_snapshot, persists_pass, persists_advance, cut_advance, persists_out, cut_out}
@@ -50,7 +50,7 @@ module _ (needed : Needs) (blocks area : ℕ) (ranges : List Range) where
   LentOn (start m) l v b before = (l.memory ≡ m) × Preserved needed blocks area ranges v b.kept before
   LentOn (change ws) l v b before = Stands needed blocks area ranges l v b before
   LentOn snapshot l v b before = Stands needed blocks area ranges l v b before
-  LentOn pageOut l v b before = Stands needed blocks area ranges l v b before
+  LentOn page_out l v b before = Stands needed blocks area ranges l v b before
   LentOn (advance n) l v b before = Stands needed blocks area ranges l v b before
 
   module _ (l : Lent) (v : Drive) (b : FrameBook) (before : Option Contents) (e : l.card ≡ seen v) where
@@ -58,14 +58,14 @@ module _ (needed : Needs) (blocks area : ℕ) (ranges : List Range) where
     lent_ok (start m) o = (o.0, rw e (preserved_stored blocks area ranges v b.kept before o.1))
     lent_ok (change ws) o = stands_standing l v b before e o
     lent_ok snapshot o = stands_standing l v b before e o
-    lent_ok pageOut o = stands_standing l v b before e o
+    lent_ok page_out o = stands_standing l v b before e o
     lent_ok (advance n) o = stands_standing l v b before e o
 
     lent_preserved : (c : FrameCall) → LentOn c l v b before → Preserved needed blocks area ranges v b.kept before
     lent_preserved (start m) o = o.1
     lent_preserved (change ws) o = stands_preserved l v b before o
     lent_preserved snapshot o = stands_preserved l v b before o
-    lent_preserved pageOut o = stands_preserved l v b before o
+    lent_preserved page_out o = stands_preserved l v b before o
     lent_preserved (advance n) o = stands_preserved l v b before o
 
     -- refused
@@ -73,7 +73,7 @@ module _ (needed : Needs) (blocks area : ℕ) (ranges : List Range) where
     lent_back (start m) o = (e, vacant refl o.1)
     lent_back (change ws) o = (e, o)
     lent_back snapshot o = (e, o)
-    lent_back pageOut o = (e, o)
+    lent_back page_out o = (e, o)
     lent_back (advance n) o = (e, o)
 
     own_persists : (own : List Question) → Stands needed blocks area ranges l v b before → first_no (common l ++ own) ≡ 0 → Persists needed blocks area ranges (meaning_of l) v b before × (first_no own ≡ 0)
@@ -118,7 +118,7 @@ module _ (needed : Needs) (blocks area : ℕ) (ranges : List Range) where
     lent-done snapshot o asked h =
         let q = own_persists (snapshot_asks (meaning_of l)) o h in
         persists_snapshot blocks area ranges (meaning_of l) v b before q.0 q.1
-    lent-done pageOut o asked h =
+    lent-done page_out o asked h =
         let q = own_persists (page_out_asks (meaning_of l)) o h in
         persists_out blocks area ranges (meaning_of l) v b before q.0 q.1
     lent-done (advance n) o asked h =
@@ -132,7 +132,7 @@ module _ (needed : Needs) (blocks area : ℕ) (ranges : List Range) where
     seen_done (start m) h = e
     seen_done (change ws) h = e
     seen_done snapshot h = e
-    seen_done pageOut h = rw e (sym (seen-written v (page_out_write (meaning_of l))))
+    seen_done page_out h = rw e (sym (seen-written v (page_out_write (meaning_of l))))
     seen_done (advance n) h =
         let q = common_both l.store (length l.memory) (length l.card) (advance_asks (meaning_of (past n l))) h in
         let d = advance_due_lem (meaning_of (past n l)) q.1 in
@@ -145,7 +145,7 @@ module _ (needed : Needs) (blocks area : ℕ) (ranges : List Range) where
     lent_cut (start m) o asked h c' reached left r = preserved_cut blocks area ranges v b before o.1 c' left reached r
     lent_cut (change ws) o asked h c' reached left r = preserved_cut blocks area ranges v b before (lent_preserved (change ws) o) c' left reached r
     lent_cut snapshot o asked h c' reached left r = preserved_cut blocks area ranges v b before (lent_preserved snapshot o) c' left reached r
-    lent_cut pageOut o asked h c' reached left r =
+    lent_cut page_out o asked h c' reached left r =
         let q = own_persists (page_out_asks (meaning_of l)) o h in
         cut_out blocks area ranges (meaning_of l) v b before q.0 q.1 c' left reached r
     lent_cut (advance n) o asked h c' reached left r =

@@ -10,7 +10,7 @@ use mathlib.Core.Option.{Option, none}
 use mathlib.Core.Path.{◌≡◌, refl, ap, sym, ◌∙◌, subst}
 use native.Mathlib.Omega.{arith}
 use Rattle.card.specs.Question.{first_no}
-use Rattle.frames.specs.Promise.{Lent, meaning_of, outcome_of, Keeps, FrameCall, start, change, snapshot, pageOut, advance, FrameAnswer, refused, done, asks, done_answer, done_write, after, handed_back, FrameKept, numbered}
+use Rattle.frames.specs.Promise.{Lent, meaning_of, outcome_of, Keeps, FrameCall, start, change, snapshot, page_out, advance, FrameAnswer, refused, done, asks, done_answer, done_write, after, handed_back, FrameKept, numbered}
 use Rattle.record.specs.Holds.{holds_together}
 use Rattle.recovery.specs.State.{State}
 use Rattle.recovery.specs.Write.{BlockWrite, put_down}
@@ -65,14 +65,14 @@ pub back_card : (c : FrameCall) (l : Lent) → (handed_back c l).card ≡ l.card
 back_card (start m) l = refl
 back_card (change ws) l = refl
 back_card snapshot l = refl
-back_card pageOut l = refl
+back_card page_out l = refl
 back_card (advance n) l = refl
 
 pub back_memory : (c : FrameCall) (l : Lent) → (handed_back c l).memory ≡ l.memory
 back_memory (start m) l = refl
 back_memory (change ws) l = refl
 back_memory snapshot l = refl
-back_memory pageOut l = refl
+back_memory page_out l = refl
 back_memory (advance n) l = refl
 
 pub kept_refused : (c : FrameCall) (l : Lent) (n : ℕ) → first_no (asks c l) ≡ n → n ≢ 0 → FrameKept c l (refused n) (handed_back c l)

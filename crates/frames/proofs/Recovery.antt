@@ -13,7 +13,7 @@ use Rattle.card.specs.Question.{first_no, header_ranges}
 use Rattle.card.specs.Range.{Range}
 use Rattle.frames.proofs.DriveWorld.{Stands, vacant, serving, stands_preserved, stands_persists, LentOn, called_on, cut_on}
 use Rattle.frames.proofs.WorldLaws.{done_keeps, done_follows, done-common}
-use Rattle.frames.specs.Promise.{Lent, meaning_of, common, FrameCall, start, change, snapshot, pageOut, advance, FrameAnswer, done, asks, done_answer, done_write, FrameKept, Loads, LoadsCommitted}
+use Rattle.frames.specs.Promise.{Lent, meaning_of, common, FrameCall, start, change, snapshot, page_out, advance, FrameAnswer, done, asks, done_answer, done_write, FrameKept, Loads, LoadsCommitted}
 use Rattle.frames.proofs.Run.{told, FrameWorld, start_lent, lent_to, FrameStep, called, cut_within, cut_between, FrameRun, stays, goes, first_world, Serves, FramesRecover, FramesPresent, FramesHold, FramesCommitted}
 use Rattle.record.specs.Meaning.{zero_store}
 use Rattle.recovery.proofs.Follows.{Follows}
@@ -51,7 +51,7 @@ module _ (needed : Needs) (blocks area : ℕ) (ranges : List Range) where
       subst (λ (x : Lent). (x.card ≡ seen w.drive) × LentOn needed blocks area ranges (start m) x w.drive w.book w.before) l-is (refl, (refl, world_preserved w o))
   lent_ok (change ws) w l e o = held_stands w l e o
   lent_ok snapshot w l e o = held_stands w l e o
-  lent_ok pageOut w l e o = held_stands w l e o
+  lent_ok page_out w l e o = held_stands w l e o
   lent_ok (advance n) w l e o = held_stands w l e o
 
   step_ok : (u v : FrameWorld) → FrameStep needed u v → WorldOk u → WorldOk v

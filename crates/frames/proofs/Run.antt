@@ -12,7 +12,7 @@ use Rattle.card.specs.Block.{block_at, whole}
 use Rattle.card.specs.Bytes.{All}
 use Rattle.card.specs.Header.{header_on}
 use Rattle.card.specs.Question.{first_no, header_ranges}
-use Rattle.frames.specs.Promise.{Lent, lent, meaning_of, common, FrameCall, start, change, snapshot, pageOut, advance, FrameAnswer, refused, done, wrote, outcome, FrameKept, Loads, LoadsCommitted}
+use Rattle.frames.specs.Promise.{Lent, lent, meaning_of, common, FrameCall, start, change, snapshot, page_out, advance, FrameAnswer, refused, done, wrote, outcome, FrameKept, Loads, LoadsCommitted}
 use Rattle.record.specs.Meaning.{zero_store}
 use Rattle.recovery.proofs.Follows.{Passed}
 use Rattle.recovery.specs.Book.{FrameBook, book_change, book_snapshot, book_start, book_wrote, kept_before, book_cut, WholeFrame, Needs, Brings}
@@ -48,7 +48,7 @@ unfoldable pub told : FrameCall → FrameAnswer → FrameBook → FrameBook
 told (start m) a b = on_done a (book_start b) b
 told (change ws) a b = on_done a (book_change ws b) b
 told snapshot a b = on_done a (book_snapshot b) b
-told pageOut a b = b
+told page_out a b = b
 told (advance n) a b = on_wrote a b
 
 -- what was kept before a header write that is not flushed
@@ -73,7 +73,7 @@ abbrev pub lent_to : FrameCall → FrameWorld → Option Lent
 lent_to (start m) w = some (start_lent m (seen w.drive))
 lent_to (change ws) w = w.held
 lent_to snapshot w = w.held
-lent_to pageOut w = w.held
+lent_to page_out w = w.held
 lent_to (advance n) w = w.held
 
 -- The layer above changes home frames only, each with a whole block of bytes, and hands down every frame that a
@@ -82,7 +82,7 @@ abbrev pub Asked : Needs → FrameCall → Lent → FrameBook → Type 0
 Asked needed (start m) l b = Unit {0}
 Asked needed (change ws) l b = All (WholeFrame l.store.geometry.area l.store.geometry.blocks) ws × Brings needed l.store.geometry.area l.store.geometry.blocks ws b.present
 Asked needed snapshot l b = Unit {0}
-Asked needed pageOut l b = Unit {0}
+Asked needed page_out l b = Unit {0}
 Asked needed (advance n) l b = Passed needed b.kept n (meaning_of l)
 
 -- a call, done or refused, by its own promise; a cut in a call, whose write is then one of those that are not

@@ -18,7 +18,7 @@ use Rattle.card.specs.Question.{Question, first_no}
 use Rattle.card.specs.Range.{Range}
 use Rattle.frames.proofs.KeepLaws.{done_tells}
 use Rattle.frames.proofs.ReadyLaws.{whole_said, common_both}
-use Rattle.frames.specs.Promise.{Lent, meaning_of, common, FrameCall, start, change, snapshot, pageOut, advance, FrameAnswer, refused, asks, advance_answer, advance_write, advanced, done_answer, done_write, after, FrameKept, past}
+use Rattle.frames.specs.Promise.{Lent, meaning_of, common, FrameCall, start, change, snapshot, page_out, advance, FrameAnswer, refused, asks, advance_answer, advance_write, advanced, done_answer, done_write, after, FrameKept, past}
 use Rattle.frames.proofs.Run.{told, Asked}
 use Rattle.frames.proofs.Zeros.{zeros-first}
 use Rattle.record.specs.Holds.{holds_together}
@@ -43,7 +43,7 @@ unfolding told
 told_refused (start m) n b = refl
 told_refused (change ws) n b = refl
 told_refused snapshot n b = refl
-told_refused pageOut n b = refl
+told_refused page_out n b = refl
 told_refused (advance k) n b = refl
 
 -- ---- questions 1 to 3
@@ -95,7 +95,7 @@ abbrev pub LentMemory : FrameCall → Lent → Type 0
 LentMemory (start m) l = l.memory ≡ m
 LentMemory (change ws) l = Unit {0}
 LentMemory snapshot l = Unit {0}
-LentMemory pageOut l = Unit {0}
+LentMemory page_out l = Unit {0}
 LentMemory (advance n) l = Unit {0}
 
 own_memory : (l : Lent) (own : List Question) (n : ℕ) → n ≡ l.store.frames → first_no (common l ++ own) ≡ 0 → MemorySaid (length l.memory) n
@@ -108,7 +108,7 @@ after_memory (start m) l o h =
     rw o (sym (whole_said 4 64 (length m) (length m / 512) w) ∙ eq-eqb (length m / 512) (length m / 512) refl)
 after_memory (change ws) l o h = own_memory l (room_asks ws (meaning_of l)) _ refl h
 after_memory snapshot l o h = own_memory l (snapshot_asks (meaning_of l)) _ refl h
-after_memory pageOut l o h = own_memory l (page_out_asks (meaning_of l)) _ (out_frames (meaning_of l)) h
+after_memory page_out l o h = own_memory l (page_out_asks (meaning_of l)) _ (out_frames (meaning_of l)) h
 after_memory (advance n) l o h = own_memory l (advance_asks (meaning_of (past n l))) _ (advanced_frames (advance_due (meaning_of (past n l))) (meaning_of (past n l))) h
 
 -- it passes questions 1 and 2, whatever record the call was lent
@@ -135,7 +135,7 @@ module _ (needed : Needs) (blocks area : ℕ) (ranges : List Range) where
   LentOk (start m) l b = (l.memory ≡ m) × Stored needed blocks area ranges l.card b.kept
   LentOk (change ws) l b = Standing needed blocks area ranges l b
   LentOk snapshot l b = Standing needed blocks area ranges l b
-  LentOk pageOut l b = Standing needed blocks area ranges l b
+  LentOk page_out l b = Standing needed blocks area ranges l b
   LentOk (advance n) l b = Standing needed blocks area ranges l b
 
   -- a record that follows the book passes questions 1 to 3 if it passes 1 and 2
@@ -156,7 +156,7 @@ module _ (needed : Needs) (blocks area : ℕ) (ranges : List Range) where
     lent_memory (start m) o = o.0
     lent_memory (change ws) o = tt
     lent_memory snapshot o = tt
-    lent_memory pageOut o = tt
+    lent_memory page_out o = tt
     lent_memory (advance n) o = tt
 
     -- done
@@ -174,7 +174,7 @@ module _ (needed : Needs) (blocks area : ℕ) (ranges : List Range) where
     lent-done snapshot o asked h =
         let q = own_follows (snapshot_asks (meaning_of l)) o h in
         follows_snapshot blocks area ranges (meaning_of l) l.card b q.0 q.1
-    lent-done pageOut o asked h =
+    lent-done page_out o asked h =
         let q = own_follows (page_out_asks (meaning_of l)) o h in
         follows_out blocks area ranges (meaning_of l) l.card b q.0 q.1
     lent-done (advance n) o asked h =

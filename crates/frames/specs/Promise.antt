@@ -84,7 +84,7 @@ pub record Keeps {A : Type 0} (o : Outcome A) (back l : Lent) (a : A) (l' : Lent
 pub data FrameCall : Type 0 where
   start : (memory : List ℕ) → FrameCall
   change : (frames : List FrameBytes) → FrameCall
-  snapshot pageOut : FrameCall
+  snapshot page_out : FrameCall
   advance : (passed : ℕ) → FrameCall
 
 pub data FrameAnswer : Type 0 where
@@ -96,7 +96,7 @@ unfoldable pub asks : FrameCall → Lent → List Question
 asks (start m) l = start_asks m l.card
 asks (change ws) l = common l ++ room_asks ws (meaning_of l)
 asks snapshot l = common l ++ snapshot_asks (meaning_of l)
-asks pageOut l = common l ++ page_out_asks (meaning_of l)
+asks page_out l = common l ++ page_out_asks (meaning_of l)
 asks (advance n) l = common l ++ advance_asks (meaning_of (past n l))
 
 unfoldable pub advance_answer : Option Kind → Lent → FrameAnswer
@@ -115,21 +115,21 @@ unfoldable pub done_answer : FrameCall → Lent → FrameAnswer
 done_answer (start m) l = done
 done_answer (change ws) l = done
 done_answer snapshot l = done
-done_answer pageOut l = wrote page (page_out_write (meaning_of l)).block
+done_answer page_out l = wrote page (page_out_write (meaning_of l)).block
 done_answer (advance n) l = advance_answer (advance_due (meaning_of (past n l))) (past n l)
 
 unfoldable pub done_write : FrameCall → Lent → Option BlockWrite
 done_write (start m) l = none
 done_write (change ws) l = none
 done_write snapshot l = none
-done_write pageOut l = some (page_out_write (meaning_of l))
+done_write page_out l = some (page_out_write (meaning_of l))
 done_write (advance n) l = advance_write (advance_due (meaning_of (past n l))) (past n l)
 
 unfoldable pub after : FrameCall → Lent → State
 after (start m) l = start_state m l.card
 after (change ws) l = after_change ws (meaning_of l)
 after snapshot l = after_snapshot (meaning_of l)
-after pageOut l = after_page_out (meaning_of l)
+after page_out l = after_page_out (meaning_of l)
 after (advance n) l = advanced (advance_due (meaning_of (past n l))) (meaning_of (past n l))
 
 abbrev pub outcome : FrameCall → Lent → Outcome FrameAnswer
@@ -140,7 +140,7 @@ abbrev pub handed_back : FrameCall → Lent → Lent
 handed_back (start m) l = lent zero_store l.memory l.card
 handed_back (change ws) l = l
 handed_back snapshot l = l
-handed_back pageOut l = l
+handed_back page_out l = l
 handed_back (advance n) l = l
 
 abbrev pub FrameKept : FrameCall → Lent → FrameAnswer → Lent → Type 0

@@ -3,7 +3,7 @@ ghost use Rattle.std.specs.Prelude.{◌≡◌, ◌≢◌, ◌≤◌, ◌<◌, le
 ghost use Rattle.card.specs.Question.{first_no};
 ghost use Rattle.record.specs.Meaning.{state_of};
 ghost use Rattle.recovery.specs.Step.{out_write, out_of, pending_to, current_to};
-ghost use Rattle.frames.specs.Promise.{common_asks, pageOut, lent, reported, FrameKept};
+ghost use Rattle.frames.specs.Promise.{common_asks, page_out, lent, reported, FrameKept};
 ghost use Rattle.frames.specs.Parts.{WriteDone};
 
 use card_blocks::{block, ring};
@@ -59,7 +59,7 @@ fn current(s: Store, card: &mut [u8], memory: &[u8]) -> Wrote
 // Where no flush is owed.
 fn out_due(s: Store, card: &mut [u8], memory: &[u8]) -> Advanced
     requires { (first_no (common_asks s (length memory.now) (length card.old)) ≡ 0) × (s.phase ≢ 2) }
-    ensures { FrameKept pageOut (lent s memory.now card.old) (reported result.answer) (lent result.store memory.now card.new) }
+    ensures { FrameKept page_out (lent s memory.now card.old) (reported result.answer) (lent result.store memory.now card.new) }
 {
     if s.pending.down < s.pending.taken {
         let w = pending(s, card, memory);
@@ -85,7 +85,7 @@ fn out_due(s: Store, card: &mut [u8], memory: &[u8]) -> Advanced
 
 // Reports the block as an advance of kind P does.
 pub fn page_out(s: Store, card: &mut [u8], memory: &[u8]) -> Advanced
-    ensures { FrameKept pageOut (lent s memory.now card.old) (reported result.answer) (lent result.store memory.now card.new) }
+    ensures { FrameKept page_out (lent s memory.now card.old) (reported result.answer) (lent result.store memory.now card.new) }
 {
     let no = question::common(s, memory.len(), card.len());
     if no != 0 {

@@ -116,7 +116,7 @@ pub extern "C" fn lane_snapshot(s: &mut Store, card: &[u8], memory: &[u8]) -> u3
 
 #[unsafe(no_mangle)]
 pub extern "C" fn lane_page_out(s: &mut Store, card: &mut [u8], memory: &[u8]) -> Report
-    ensures { Linked call.pageOut (lent s.old memory.now card.old) (report result.kind result.refusal result.block) (lent s.new memory.now card.new) }
+    ensures { Linked call.page_out (lent s.old memory.now card.old) (report result.kind result.refusal result.block) (lent s.new memory.now card.new) }
 {
     let d = number::page_out(*s, card, memory);
     *s = d.store;
@@ -147,7 +147,7 @@ pub fn key<'s, 'a>(s: &'s mut Store, card: &'a [u8], memory: &'a [u8], oid: u32)
 }
 
 pub fn page_out(s: &mut Store, card: &mut [u8], memory: &[u8]) -> Advance
-    ensures { Kept call.pageOut (lent s.old memory.now card.old) (answered (reported result)) (lent s.new memory.now card.new) }
+    ensures { Kept call.page_out (lent s.old memory.now card.old) (answered (reported result)) (lent s.new memory.now card.new) }
 {
     let d = page_out::page_out(*s, card, memory);
     *s = d.store;

@@ -95,7 +95,7 @@ pub fn snapshot(s: Store, card: &[u8], memory: &[u8]) -> Done
 }
 
 pub fn page_out(s: Store, card: &mut [u8], memory: &[u8]) -> Advanced
-    ensures { Kept call.pageOut (lent s memory.now card.old) (answered (reported result.answer)) (lent result.store memory.now card.new) }
+    ensures { Kept call.page_out (lent s memory.now card.old) (answered (reported result.answer)) (lent result.store memory.now card.new) }
 {
     let mut t = s;
     let c = call::page_out(&mut t, card, memory);

@@ -1,7 +1,7 @@
 // By-value calls in the form that a wrapper calls: answers that are enums as numbers, and start with the record that it replaces.
 ghost use Rattle.std.specs.Prelude.{◌≡◌};
 ghost use Rattle.frames.specs.Promise.{lent, numbered};
-ghost use Rattle.pages.specs.Call.{key, start, on, pageOut, advance, forecast};
+ghost use Rattle.pages.specs.Call.{key, start, on, page_out, advance, forecast};
 ghost use Rattle.pages.specs.Promise.{answered, Kept};
 ghost use Rattle.record.specs.Meaning.{zero_store};
 ghost use Rattle.linked.specs.Linked.{present, foretelling, report, present_of, foretold_of, report_of, Linked};
@@ -93,7 +93,7 @@ pub fn key<'a>(s: Store, card: &'a [u8], memory: &'a [u8], oid: u32) -> Present
 }
 
 pub fn page_out(s: Store, card: &mut [u8], memory: &[u8]) -> Reported
-    ensures { Linked pageOut (lent s memory.now card.old) (report result.answer.kind result.answer.refusal result.answer.block) (lent result.store memory.now card.new) }
+    ensures { Linked page_out (lent s memory.now card.old) (report result.answer.kind result.answer.refusal result.answer.block) (lent result.store memory.now card.new) }
 {
     let d = page_out::page_out(s, card, memory);
     let a = d.answer;

@@ -20,7 +20,7 @@ use Rattle.pages.proofs.Demand2.{demand_2}
 use Rattle.pages.proofs.Demand3.{demand_3, demand_3_spoilt}
 use Rattle.pages.proofs.ForecastHolds.{forecast_holds}
 use Rattle.pages.specs.Book.{Event, is_done, is_header, is_flush}
-use Rattle.pages.specs.Call.{key, read, write, rescind, Call, start, on, snapshot, pageOut, advance, forecast, Answer, refused, done, counted, filled, wrote, foretold}
+use Rattle.pages.specs.Call.{key, read, write, rescind, Call, start, on, snapshot, page_out, advance, forecast, Answer, refused, done, counted, filled, wrote, foretold}
 use Rattle.pages.specs.Demand2 as byValue2
 use Rattle.pages.specs.Demand3 as byValue
 use Rattle.pages.specs.Demand3.{World, Run}
@@ -187,7 +187,7 @@ unfolding reply_of
 stands_told (start m) a k = k
 stands_told (on o c) a k = tt
 stands_told snapshot a k = refused_told a k
-stands_told pageOut a k = refused_told a k
+stands_told page_out a k = refused_told a k
 stands_told advance a k = tt
 stands_told forecast a k = tt
 
@@ -196,7 +196,7 @@ pub linked_refused_stands : (c : Call) (r : Reply) → Later c → refusal_of r 
 linked_refused_stands (start m) r l z = absurd l
 linked_refused_stands (on o c) r l z = tt
 linked_refused_stands snapshot r l z = z
-linked_refused_stands pageOut r l z = z
+linked_refused_stands page_out r l z = z
 linked_refused_stands advance r l z = tt
 linked_refused_stands forecast r l z = tt
 
@@ -217,7 +217,7 @@ one_report : (c : Call) (a : Answer) (as' : List Answer) → of_advance c (reply
 one_report (start m) a as' = refl
 one_report (on o c) a as' = refl
 one_report snapshot a as' = refl
-one_report pageOut a as' = refl
+one_report page_out a as' = refl
 one_report advance a as' = refl
 one_report forecast a as' = refl
 

@@ -13,7 +13,7 @@ use Rattle.linked.specs.Linked.{number, filling, present, foretelling, report, p
 use Rattle.linked.specs.declared.answer.Foretold.{Foretold}
 use Rattle.linked.specs.declared.answer.Present.{Present}
 use Rattle.linked.specs.declared.answer.Report.{Report}
-use Rattle.pages.specs.Call.{key, read, write, rescind, Call, start, on, snapshot, pageOut, advance, forecast, filled}
+use Rattle.pages.specs.Call.{key, read, write, rescind, Call, start, on, snapshot, page_out, advance, forecast, filled}
 use Rattle.pages.specs.Promise.{answered, counted_as, foretold_as, Kept}
 use Rattle.pages.specs.declared.answer.Count.{Count}
 use Rattle.pages.specs.declared.answer.Count.TheVariants as Counts
@@ -87,9 +87,9 @@ linked_report : (c : Call) (l l' : Lent) (a : Advance) (r : Report) → reply_of
 linked_report c l l' a r writes e k = record { answer = _; in_numbers = ap (λ (x : Report). report x.kind x.refusal x.block) e ∙ (as_report a ∙ sym writes); kept = k }
 
 module _ (l l' : Lent) (a : Advance) (r : Report) (e : r ≡ report_of a) where
-  pub linked_page_out : Kept pageOut l (answered (reported a)) l' → Linked pageOut l (report r.kind r.refusal r.block) l'
+  pub linked_page_out : Kept page_out l (answered (reported a)) l' → Linked page_out l (report r.kind r.refusal r.block) l'
   unfolding reply_of
-  linked_page_out k = linked_report pageOut l l' a r refl e k
+  linked_page_out k = linked_report page_out l l' a r refl e k
 
   pub linked_advance : Kept advance l (answered (reported a)) l' → Linked advance l (report r.kind r.refusal r.block) l'
   unfolding reply_of

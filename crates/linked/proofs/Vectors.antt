@@ -10,7 +10,7 @@ use Rattle.linked.specs.Linked.{filling, present, foretelling, report, present_o
 use Rattle.linked.specs.declared.answer.Foretold.{Foretold}
 use Rattle.linked.specs.declared.answer.Present.{Present}
 use Rattle.linked.specs.declared.answer.Report.{Report}
-use Rattle.pages.specs.Call.{PageCall, key, read, write, rescind, Call, start, on, snapshot, pageOut, advance, forecast, refused, counted, filled, wrote, foretold, page_answer, page_refusal}
+use Rattle.pages.specs.Call.{PageCall, key, read, write, rescind, Call, start, on, snapshot, page_out, advance, forecast, refused, counted, filled, wrote, foretold, page_answer, page_refusal}
 use Rattle.pages.specs.Page.{Page}
 use Rattle.pages.specs.Promise.{refusal}
 use Rattle.pages.specs.declared.answer.Count.TheVariants as Counts
@@ -42,7 +42,7 @@ unfolding foretold_of
 foretold_fields = (refl, refl)
 
 -- the replies of the two demands
-pub replies-told : (reply_of pageOut (wrote page 9) ≡ report 1 0 9) × (reply_of advance (wrote header 0) ≡ report 5 0 0)
+pub replies-told : (reply_of page_out (wrote page 9) ≡ report 1 0 9) × (reply_of advance (wrote header 0) ≡ report 5 0 0)
     × (reply_of advance (wrote flush 0) ≡ report 6 0 0) × (reply_of advance (refused 20) ≡ report 0 20 0)
     × (reply_of (on 100 key) (counted 7) ≡ present 0 7) × (reply_of (on 100 key) (refused 9) ≡ present 9 0)
     × (reply_of forecast (foretold 8) ≡ foretelling 0 8) × (reply_of forecast (refused 3) ≡ foretelling 3 0)
@@ -64,7 +64,7 @@ unfolding reply_of refusal number_of
 refused_number (start m) n = refl
 refused_number (on o c) n = page_refused c n
 refused_number snapshot n = refl
-refused_number pageOut n = refl
+refused_number page_out n = refl
 refused_number advance n = refl
 refused_number forecast n = refl
 

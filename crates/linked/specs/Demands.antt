@@ -8,7 +8,7 @@ use Rattle.card.specs.Block.{whole}
 use Rattle.frames.specs.Promise.{Lent, lent, numbered}
 use Rattle.linked.specs.Linked.{Reply, number, filling, present, foretelling, report, reply_of, Linked}
 use Rattle.pages.specs.Book.{Event, called, cut_in, cut, is_flush, format_book, book_after}
-use Rattle.pages.specs.Call.{key, read, Call, start, on, snapshot, pageOut, advance, forecast, Answer}
+use Rattle.pages.specs.Call.{key, read, Call, start, on, snapshot, page_out, advance, forecast, Answer}
 use Rattle.pages.specs.Demand2.{plain_answers, plain_card, NoStart}
 use Rattle.pages.specs.Demand3.{World, lent_to, drive_after, Step, OfRanges}
 use Rattle.pages.specs.ForecastHolds.{advances}
@@ -87,7 +87,7 @@ abbrev pub LinkedMayStand : Call → Reply → Type 0
 LinkedMayStand (start m) r = ⊥
 LinkedMayStand (on o c) r = Unit {0}
 LinkedMayStand snapshot r = refusal_of r ≢ 0
-LinkedMayStand pageOut r = refusal_of r ≢ 0
+LinkedMayStand page_out r = refusal_of r ≢ 0
 LinkedMayStand advance r = Unit {0}
 LinkedMayStand forecast r = Unit {0}
 

@@ -7,7 +7,7 @@ use Rattle.frames.specs.declared.answer.Advance.TheVariants.{P, D, T, M, H, F, R
 use Rattle.linked.specs.declared.answer.Foretold.{Foretold}
 use Rattle.linked.specs.declared.answer.Present.{Present}
 use Rattle.linked.specs.declared.answer.Report.{Report}
-use Rattle.pages.specs.Call.{PageCall, key, read, write, rescind, Call, start, on, snapshot, pageOut, advance, forecast, Answer, refused, done, counted, filled, wrote, foretold}
+use Rattle.pages.specs.Call.{PageCall, key, read, write, rescind, Call, start, on, snapshot, page_out, advance, forecast, Answer, refused, done, counted, filled, wrote, foretold}
 use Rattle.pages.specs.Promise.{Kept}
 use Rattle.pages.specs.declared.answer.Count.{Count}
 use Rattle.pages.specs.declared.answer.Count.TheVariants as Counts
@@ -116,7 +116,7 @@ unfoldable pub reply_of : Call → Answer → Reply
 reply_of (start m) a = number (number_of a)
 reply_of (on o c) a = page_reply c a
 reply_of snapshot a = number (number_of a)
-reply_of pageOut a = report (kind_of a) (number_of a) (block_of a)
+reply_of page_out a = report (kind_of a) (number_of a) (block_of a)
 reply_of advance a = report (kind_of a) (number_of a) (block_of a)
 reply_of forecast a = foretelling (number_of a) (advances_of a)
 

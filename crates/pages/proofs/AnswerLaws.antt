@@ -21,7 +21,7 @@ use Rattle.card.specs.declared.range.Lookup.TheVariants.{Located, Gap, Outside}
 use Rattle.frames.proofs.KeepLaws.{outcome-done, outcome_refused, keeps_refused, keeps_done, done_tells, refused_tells, back_card, back_memory}
 use Rattle.frames.proofs.ReadyLaws.{common_passed, common_both}
 use Rattle.frames.specs.Promise.{Lent, meaning_of, common, FrameAnswer, FrameKept}
-use Rattle.pages.specs.Call.{PageCall, key, read, write, rescind, Call, start, on, snapshot, pageOut, advance, forecast, Answer, page_asks}
+use Rattle.pages.specs.Call.{PageCall, key, read, write, rescind, Call, start, on, snapshot, page_out, advance, forecast, Answer, page_asks}
 use Rattle.pages.specs.Change.{at_place}
 use Rattle.pages.specs.Page.{Page}
 use Rattle.pages.specs.Promise.{answered, address_of, present_page, call_frames, placed, asks, frame_call, done_answer, refusal, outcome, Kept}
@@ -40,7 +40,7 @@ abbrev pub Later : Call → Type 0
 Later (start m) = ⊥
 Later (on o c) = Unit {0}
 Later snapshot = Unit {0}
-Later pageOut = Unit {0}
+Later page_out = Unit {0}
 Later advance = Unit {0}
 Later forecast = Unit {0}
 
@@ -53,7 +53,7 @@ unfolding asks own_asks held_asks
 asks_are (start m) l k = absurd k
 asks_are (on o c) l k = refl
 asks_are snapshot l k = refl
-asks_are pageOut l k = refl
+asks_are page_out l k = refl
 asks_are advance l k = refl
 asks_are forecast l k = refl
 
@@ -148,7 +148,7 @@ module _ (l : Lent) where
   frames_asked (start m) e = unfold asks frames.asks in e
   frames_asked (on o c) e = let q = asked_both (on o c) l tt e in change_asked (call_frames o c l) q.0 (on_passed o c l q.1).room
   frames_asked snapshot e = unfold asks frames.asks in e
-  frames_asked pageOut e = unfold asks frames.asks in e
+  frames_asked page_out e = unfold asks frames.asks in e
   frames_asked advance e = unfold asks frames.asks in e
   frames_asked forecast e = change_asked [] (asked_both forecast l tt e).0 (change_none (meaning_of l)).0
 

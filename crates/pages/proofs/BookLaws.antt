@@ -12,7 +12,7 @@ use Rattle.card.proofs.BytesLaws.{patch_none, none_long}
 use Rattle.card.proofs.Test.{by_test}
 use Rattle.card.specs.Bytes.{patch, zeros}
 use Rattle.pages.specs.Book.{Book, called, present_to, is_done, is_header, is_flush, told}
-use Rattle.pages.specs.Call.{PageCall, key, read, write, rescind, Call, start, on, snapshot, pageOut, advance, forecast, Answer, done, edits, page_answer, page_refusal}
+use Rattle.pages.specs.Call.{PageCall, key, read, write, rescind, Call, start, on, snapshot, page_out, advance, forecast, Answer, done, edits, page_answer, page_refusal}
 use Rattle.pages.specs.Change.{Change, put, empty, Edit, edit, update, changed, applied}
 use Rattle.pages.specs.Page.{Page}
 use Rattle.pages.specs.Promise.{refusal}
@@ -38,7 +38,7 @@ unfolding told refusal is_done is_header is_flush
 told_refused (start m) n b z = refl
 told_refused (on o c) n b z = ap (λ (t : Bool). cond t (present_to (applied (edits o c) b.present) b) b) ((refused_page c n).0 z)
 told_refused snapshot n b z = refl
-told_refused pageOut n b z = refl
+told_refused page_out n b z = refl
 told_refused advance n b z = refl
 told_refused forecast n b z = refl
 

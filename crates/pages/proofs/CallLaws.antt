@@ -22,7 +22,7 @@ use Rattle.frames.specs.declared.answer.Done.{Done}
 use Rattle.pages.proofs.AnswerLaws.{change_none, keeps_no, keeps_same, lifted}
 use Rattle.pages.proofs.EditLaws.{frames_one}
 use Rattle.pages.proofs.NamedLaws.{Found, found_together, one_frame, two_frames, Stops, rest_asked, present_count, key_asks, Keyed, keyed_asks}
-use Rattle.pages.specs.Call.{PageCall, key, read, write, rescind, start, on, snapshot, pageOut, advance, forecast, refused, done, counted, filled, page_asks, edits, page_answer, page_refusal}
+use Rattle.pages.specs.Call.{PageCall, key, read, write, rescind, start, on, snapshot, page_out, advance, forecast, refused, done, counted, filled, page_asks, edits, page_answer, page_refusal}
 use Rattle.pages.specs.Change.{put, empty, write_frames, rescind_pot, changed_frames, at_place, edit_frames}
 use Rattle.pages.specs.Page.{page_bytes, page_of}
 use Rattle.pages.specs.Promise.{answered, counted_as, foretold_as, address_of, present_frames, present_page, call_frames, asks, frame_call, done_answer, refusal, Kept, over, passed_of}
@@ -45,9 +45,9 @@ module _ (l l' : Lent) (a : FrameAnswer) where
   unfolding asks frames.asks frame_call done_answer frames.done_answer refusal answered
   snapshot_kept k = lifted snapshot l l' a k refl refl (λ n. refl)
 
-  pub page_out_kept : FrameKept frames.pageOut l a l' → Kept pageOut l (answered a) l'
+  pub page_out_kept : FrameKept frames.page_out l a l' → Kept page_out l (answered a) l'
   unfolding asks frames.asks frame_call done_answer frames.done_answer refusal answered
-  page_out_kept k = lifted pageOut l l' a k refl refl (λ n. refl)
+  page_out_kept k = lifted page_out l l' a k refl refl (λ n. refl)
 
   pub advance_kept : FrameKept (frames.advance (passed_of l)) l a l' → Kept advance l (answered a) l'
   unfolding asks frames.asks frame_call done_answer refusal answered

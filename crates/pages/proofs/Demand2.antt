@@ -22,7 +22,7 @@ use Rattle.pages.proofs.AnswerLaws.{Later, asked_both, asked_own, frames_asked, 
 use Rattle.pages.proofs.LedgerLaws.{none_pending, some_change}
 use Rattle.pages.proofs.PlainLaws.{InStep, same_number, agrees}
 use Rattle.pages.proofs.Represents.{accepted_full}
-use Rattle.pages.specs.Call.{Call, start, on, snapshot, pageOut, advance, forecast, Answer, refused, done}
+use Rattle.pages.specs.Call.{Call, start, on, snapshot, page_out, advance, forecast, Answer, refused, done}
 use Rattle.pages.specs.Change.{at_place}
 use Rattle.pages.specs.Demand2.{plain_answers, plain_card, NoStart, Calls, finished, next, Demand2}
 use Rattle.pages.specs.Needed.{needed}
@@ -41,7 +41,7 @@ pub later : (c : Call) → ((m : List ℕ) → c ≡ start m → ⊥) → Later 
 later (start m) h = h m refl
 later (on o c) h = tt
 later snapshot h = tt
-later pageOut h = tt
+later page_out h = tt
 later advance h = tt
 later forecast h = tt
 
@@ -54,7 +54,7 @@ module _ (rs : List Range) (blocks area : ℕ) (full : blocks ≡ 1 + area + all
   lent_held (start m) l b k h = absurd k
   lent_held (on o c) l b k h = (h, refl)
   lent_held snapshot l b k h = (h, refl)
-  lent_held pageOut l b k h = (h, refl)
+  lent_held page_out l b k h = (h, refl)
   lent_held advance l b k h = (h, refl)
   lent_held forecast l b k h = (h, refl)
 

@@ -22,7 +22,7 @@ use Rattle.pages.proofs.Demand2 as demand
 use Rattle.pages.proofs.LedgerLaws.{none_pending, kind_phase}
 use Rattle.pages.proofs.PlainLaws.{InStep}
 use Rattle.pages.specs.Book.{is_done, is_header, is_flush}
-use Rattle.pages.specs.Call.{key, read, write, rescind, Call, start, on, snapshot, pageOut, advance, forecast, Answer, refused, done, wrote, foretold, edits}
+use Rattle.pages.specs.Call.{key, read, write, rescind, Call, start, on, snapshot, page_out, advance, forecast, Answer, refused, done, wrote, foretold, edits}
 use Rattle.pages.specs.Change.{Edit}
 use Rattle.pages.specs.Demand2.{NoStart, Calls, finished, next}
 use Rattle.pages.specs.ForecastHolds.{MayStand, Undisturbed, of_advance, advances, Foreseen, ForecastHolds}
@@ -85,7 +85,7 @@ module _ (t : Plain) where
   Other (start m) = Unit {0}
   Other (on u c) = Unit {0}
   Other snapshot = Unit {0}
-  Other pageOut = Unit {0}
+  Other page_out = Unit {0}
   Other advance = ⊥
   Other forecast = Unit {0}
 
@@ -94,7 +94,7 @@ module _ (t : Plain) where
   done_same (start m) o k = absurd k
   done_same (on u c) o k = edits_same (edits u c)
   done_same snapshot o k = absurd (false≢true (sym k))
-  done_same pageOut o k = absurd (false≢true (sym k))
+  done_same page_out o k = absurd (false≢true (sym k))
   done_same advance o k = absurd o
   done_same forecast o k = refl
 
@@ -169,7 +169,7 @@ pub refused_stands : (c : Call) (a : Answer) → Later c → is_done a ≡ false
 refused_stands (start m) a l e = absurd l
 refused_stands (on o c) a l e = tt
 refused_stands snapshot a l e = e
-refused_stands pageOut a l e = e
+refused_stands page_out a l e = e
 refused_stands advance a l e = tt
 refused_stands forecast a l e = tt
 
@@ -181,7 +181,7 @@ stands_later : (c : Call) (a : Answer) → MayStand c a → Later c
 stands_later (start m) a k = absurd k
 stands_later (on o c) a k = tt
 stands_later snapshot a k = tt
-stands_later pageOut a k = tt
+stands_later page_out a k = tt
 stands_later advance a k = tt
 stands_later forecast a k = tt
 
@@ -238,7 +238,7 @@ module _ (rs : List Range) (blocks area : ℕ) (full : blocks ≡ 1 + area + all
       one (start m) k e h = absurd k
       one (on o c) k e h = holds_same t _ _ z (other_same t (on o c) tt k) h
       one snapshot k e h = holds_same t _ _ z (other_same t snapshot tt k) h
-      one pageOut k e h = holds_same t _ _ z (other_same t pageOut tt k) h
+      one page_out k e h = holds_same t _ _ z (other_same t page_out tt k) h
       one advance k e h = holds_advance t a _ z e h
       one forecast k e h = holds_same t _ _ z (other_same t forecast tt k) h
 

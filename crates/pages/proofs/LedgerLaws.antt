@@ -13,7 +13,7 @@ use Rattle.card.specs.Question.{first_no}
 use Rattle.card.specs.Range.{Range}
 use Rattle.card.specs.Ring.{ring_at}
 use Rattle.pages.proofs.BlankLaws.{blank_frames, blank-waits, blank_room, blank_rises, blank_due, blank_passed, blank-sum, blank-advance_asks}
-use Rattle.pages.specs.Call.{pageOut}
+use Rattle.pages.specs.Call.{page_out}
 use Rattle.pages.specs.Plain.{Plain, blank_generation, blank, is_none, phase_after, ledger_of, plain_asks, plain_out, plain_kind, plain_page_out}
 use Rattle.recovery.proofs.Follows.{Follows, Facts, FactsOf, due_facts}
 use Rattle.recovery.proofs.FollowsStep.{some_waits}
@@ -137,7 +137,7 @@ module _ (s : State) (t : Plain) (ledger_is : t.ledger ≡ blank s) (phase_is : 
   pub forecast_is : (over : ℕ → Bool) → sums.forecast over s ≡ commit_sum over (ledger_of t)
   forecast_is over = forecast-sum over s ∙ sym (ap (commit_sum over) account_is ∙ blank-sum s over)
 
-  pub waiting_is : page_out_asks s ≡ plain_asks pageOut t
+  pub waiting_is : page_out_asks s ≡ plain_asks page_out t
   unfolding page_out_asks plain_asks blank
   waiting_is = rw (phase_is, ledger_is, blank-waits s.pending, blank-waits s.current, some_of (length s.pending.waiting) (length s.current.waiting))
 

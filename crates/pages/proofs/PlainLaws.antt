@@ -24,7 +24,7 @@ use Rattle.pages.proofs.EditLaws.{place_on, SameRows, Long, changes_long, Alike,
 use Rattle.pages.proofs.LedgerLaws.{none_pending, some_change, change_notes, out_keeps, kind_current, kind_marked, kind_phase, out_phase, room_is, due_is, advance_is, forecast_is, waiting_is, out_is, kind_is, passed_is, past_is}
 use Rattle.pages.proofs.NeededLaws.{needed_same, not_true, not_false}
 use Rattle.pages.proofs.PlaceLaws.{fits, gap_same, outside_same, placed_as}
-use Rattle.pages.specs.Call.{PageCall, key, read, write, rescind, Call, start, on, snapshot, pageOut, advance, forecast, Answer, wrote, foretold, page_asks, edits, page_answer}
+use Rattle.pages.specs.Call.{PageCall, key, read, write, rescind, Call, start, on, snapshot, page_out, advance, forecast, Answer, wrote, foretold, page_asks, edits, page_answer}
 use Rattle.pages.specs.Change.{Change, put, empty, Edit, write_frames, changed_frames, at_place, edit_frames}
 use Rattle.pages.specs.Needed.{needed}
 use Rattle.pages.specs.Page.{Page}
@@ -305,7 +305,7 @@ module _ (rs : List Range) (blocks area : ℕ) (full : blocks ≡ 1 + area + all
     same_number (start m) k = absurd k
     same_number (on o c) k = on_asks o c
     same_number snapshot k = ap first_no snapshot_asks_lem
-    same_number pageOut k = ap first_no (waiting_is (meaning_of l) t b.ledger_is b.phase_is)
+    same_number page_out k = ap first_no (waiting_is (meaning_of l) t b.ledger_is b.phase_is)
     same_number advance k = ap first_no advance_asks_lem
     same_number forecast k = refl
 
@@ -329,7 +329,7 @@ module _ (rs : List Range) (blocks area : ℕ) (full : blocks ≡ 1 + area + all
       rows_are = b.rows_are;
       long = b.long;
     }
-    agrees pageOut k own = record {
+    agrees page_out k own = record {
       asked = tt;
       answer_is = unfold answered frames.done_answer in (ap (λ (w : BlockWrite). wrote page w.block) (out_is (meaning_of l) t b.ledger_is b.phase_is blocks area rs l.card b.follows own));
       write_is = unfold frames.done_write in (ap (λ (w : BlockWrite). some w) (out_is (meaning_of l) t b.ledger_is b.phase_is blocks area rs l.card b.follows own));

@@ -31,7 +31,7 @@ use Rattle.pages.proofs.EditLaws.{place_on, Alike, page_alike}
 use Rattle.pages.proofs.NeededLaws.{needed_same, not_true}
 use Rattle.pages.proofs.Represents.{accepted_full, SameBefore, Represents, represents_flushed, represents_cut, represents_start, represents_snapshot, represents_header, rows_from, book_made, edits_represents}
 use Rattle.pages.specs.Book.{Book, Event, called, present_to, header_reached, flushed_book, cut_book, is_done, is_header, is_flush, told, book_after}
-use Rattle.pages.specs.Call.{PageCall, Call, start, on, snapshot, pageOut, advance, forecast, Answer, page_asks, edits, page_answer, page_refusal}
+use Rattle.pages.specs.Call.{PageCall, Call, start, on, snapshot, page_out, advance, forecast, Answer, page_asks, edits, page_answer, page_refusal}
 use Rattle.pages.specs.Change.{Table, applied, at_place, edit_frames}
 use Rattle.pages.specs.Demand3.{World, lent_to, drive_after, Step, calls, cut_within, cut_between, Run, ended, then}
 use Rattle.pages.specs.Needed.{needed}
@@ -76,7 +76,7 @@ drive_done (start m) l o v = unfold frames.done_answer is_flush in refl
 drive_done (on u c) l o v = unfold frames.done_answer in (rw (at_place_lem (page_refusal c 9) (address_of l u) (λ p. page_answer c (present_page l p)) (refused_page c 9).1 (λ p. (answered_page c (present_page l p)).1)) refl)
 drive_done snapshot l o v = unfold frames.done_answer is_flush in refl
 drive_done forecast l o v = unfold frames.done_answer is_flush in refl
-drive_done pageOut l o v = same_flush (frames.done_answer frames.pageOut l) o v
+drive_done page_out l o v = same_flush (frames.done_answer frames.page_out l) o v
 drive_done advance l o v = same_flush (frames.done_answer (frames.advance (passed_of l)) l) o v
 
 -- one that is refused
@@ -85,7 +85,7 @@ unfolding refusal is_flush
 refusal_flush (start m) n = refl
 refusal_flush (on o c) n = (refused_page c n).1
 refusal_flush snapshot n = refl
-refusal_flush pageOut n = refl
+refusal_flush page_out n = refl
 refusal_flush advance n = refl
 refusal_flush forecast n = refl
 
@@ -216,7 +216,7 @@ module _ (m₀ card₀ : List ℕ) (accepted : first_no (start_asks m₀ card₀
         let news = on_news l e low o f.place (sym (address_is l e low o) ∙ f.place_is) c f.page_passes in
         rw (f.place_is, (answered_page c (present_page l f.place)).0) (news.0, (news.1, s.before_is))
     done-told l snapshot e ok = (tt, (represents_snapshot rs blocks area full book b s.same, s.before_is))
-    done-told l pageOut e ok = (tt, (s.same, s.before_is))
+    done-told l page_out e ok = (tt, (s.same, s.before_is))
     done-told l forecast e ok = ((tt, λ f l h k t. t), (s.same, s.before_is))
     done-told l advance e ok = (advance_asked l e (has_frames l (asked_both advance l tt ok).0), header_news (frames.done_answer (frames.advance (passed_of l)) l))
 
@@ -227,7 +227,7 @@ module _ (m₀ card₀ : List ℕ) (accepted : first_no (start_asks m₀ card₀
     lent_is (start m) l e = rw s.seen_is e
     lent_is (on o c) l e = s.held_is ∙ e
     lent_is snapshot l e = s.held_is ∙ e
-    lent_is pageOut l e = s.held_is ∙ e
+    lent_is page_out l e = s.held_is ∙ e
     lent_is advance l e = s.held_is ∙ e
     lent_is forecast l e = s.held_is ∙ e
 
@@ -253,7 +253,7 @@ module _ (m₀ card₀ : List ℕ) (accepted : first_no (start_asks m₀ card₀
         }
     called_refused (on o c) l e z = stands l e
     called_refused snapshot l e z = stands l e
-    called_refused pageOut l e z = stands l e
+    called_refused page_out l e z = stands l e
     called_refused advance l e z = stands l e
     called_refused forecast l e z = stands l e
 

@@ -2,7 +2,7 @@
 -- Assumes nothing.
 use Rattle.std.specs.Prelude.{eqb, Bool, true, false, cond, List, [], ◌∷◌}
 use Rattle.std.proofs.Math.Option.{Option, none, some, get_or}
-use Rattle.pages.specs.Call.{Call, start, on, snapshot, pageOut, advance, forecast, Answer, refused, done, counted, filled, wrote, foretold, edits}
+use Rattle.pages.specs.Call.{Call, start, on, snapshot, page_out, advance, forecast, Answer, refused, done, counted, filled, wrote, foretold, edits}
 use Rattle.pages.specs.Change.{Table, applied}
 use Rattle.pages.specs.Page.{empty_page}
 use Rattle.recovery.specs.Step.{page, directory, trailer, migration, header, flush}
@@ -84,7 +84,7 @@ unfoldable pub told : Event → Book → Book
 told (called (start m) a) b = cond (is_done a) (record { present = b.kept; marked = none; kept = b.kept; before = b.before }) b
 told (called (on o c) a) b = cond (is_done a) (present_to (applied (edits o c) b.present) b) b
 told (called snapshot a) b = cond (is_done a) (record { present = b.present; marked = some b.present; kept = b.kept; before = b.before }) b
-told (called pageOut a) b = b
+told (called page_out a) b = b
 told (called advance a) b = cond (is_header a) (header_reached b) (cond (is_flush a) (flushed_book b) b)
 told (called forecast a) b = b
 told (cut_in c reached) b = cut_book b.before reached b

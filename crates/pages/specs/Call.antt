@@ -18,7 +18,7 @@ pub data PageCall : Type 0 where
 pub data Call : Type 0 where
   start : (memory : List ℕ) → Call
   on : (oid : ℕ) → PageCall → Call
-  snapshot pageOut advance forecast : Call
+  snapshot page_out advance forecast : Call
 
 -- refused with document 01's number; done; key's count; read's number, 0 where it is done, and its buffer after the
 -- call, refused or not; the kind and block that advance or page-out wrote; how many advances forecast tells

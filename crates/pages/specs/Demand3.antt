@@ -21,7 +21,7 @@ use Rattle.card.specs.Block.{whole}
 use Rattle.card.specs.Range.{range_in}
 use Rattle.frames.specs.Promise.{Lent, lent}
 use Rattle.pages.specs.Book.{Event, called, cut_in, cut, is_flush, format_book, book_after}
-use Rattle.pages.specs.Call.{key, read, Call, start, on, snapshot, pageOut, advance, forecast, Answer, done, counted, filled}
+use Rattle.pages.specs.Call.{key, read, Call, start, on, snapshot, page_out, advance, forecast, Answer, done, counted, filled}
 use Rattle.pages.specs.Page.{Page}
 use Rattle.pages.specs.Promise.{outcome, Kept, FormatKept}
 use Rattle.record.specs.Meaning.{zero_store}
@@ -39,7 +39,7 @@ abbrev pub lent_to : Call → World → Option Lent
 lent_to (start m) w = some (lent zero_store m (seen w.drive))
 lent_to (on o c) w = w.held
 lent_to snapshot w = w.held
-lent_to pageOut w = w.held
+lent_to page_out w = w.held
 lent_to advance w = w.held
 lent_to forecast w = w.held
 

@@ -14,7 +14,7 @@
 use Rattle.std.specs.Prelude.{ℕ, ◌+◌, ◌-◌, ◌≤◌, ◌<◌, eqb, length, get_or, true, false, List, [], ◌∷◌, ◌≡◌}
 use Rattle.frames.specs.Promise.{Lent, lent}
 use Rattle.pages.specs.Book.{is_done, is_header, is_flush}
-use Rattle.pages.specs.Call.{Call, start, on, snapshot, pageOut, advance, forecast, Answer, refused, done, foretold}
+use Rattle.pages.specs.Call.{Call, start, on, snapshot, page_out, advance, forecast, Answer, refused, done, foretold}
 use Rattle.pages.specs.Demand2.{NoStart, Calls}
 use Rattle.pages.specs.Promise.{Kept}
 use Rattle.record.specs.Meaning.{zero_store}
@@ -24,7 +24,7 @@ abbrev pub MayStand : Call → Answer → Type 0
 MayStand (start m) a = ⊥
 MayStand (on o c) a = Unit {0}
 MayStand snapshot a = is_done a ≡ false
-MayStand pageOut a = is_done a ≡ false
+MayStand page_out a = is_done a ≡ false
 MayStand advance a = Unit {0}
 MayStand forecast a = Unit {0}
 
@@ -38,7 +38,7 @@ abbrev pub of_advance : {A : Type 0} → Call → A → List A → List A
 of_advance (start m) a rest = rest
 of_advance (on o c) a rest = rest
 of_advance snapshot a rest = rest
-of_advance pageOut a rest = rest
+of_advance page_out a rest = rest
 of_advance advance a rest = a ∷ rest
 of_advance forecast a rest = rest
 

@@ -21,7 +21,7 @@ use Rattle.card.specs.Ring.{ring_at}
 use Rattle.card.specs.declared.range.Address.{Address}
 use Rattle.card.specs.declared.range.Lookup.{Lookup}
 use Rattle.frames.specs.Promise.{advanced}
-use Rattle.pages.specs.Call.{PageCall, key, read, write, rescind, Call, start, on, snapshot, pageOut, advance, forecast, Answer, refused, done, counted, filled, wrote, foretold, edits}
+use Rattle.pages.specs.Call.{PageCall, key, read, write, rescind, Call, start, on, snapshot, page_out, advance, forecast, Answer, refused, done, counted, filled, wrote, foretold, edits}
 use Rattle.pages.specs.Change.{Change, put, empty, Edit, update, changed, at_place, edit_frames}
 use Rattle.pages.specs.Needed.{needed}
 use Rattle.pages.specs.Page.{Page, flagged, page_of}
@@ -156,7 +156,7 @@ plain_asks (on o c) t =
     ask 21 (not (between t.ledger.ranges o)) ∷ ask 9 (not (beyond t.ledger.ranges o))
     ∷ row_asks c (t.rows o) ++ room_sums (edit_touches (plain_address t) (edits o c) t.rows) t.ledger
 plain_asks snapshot t = ask 16 (is_none t.frames.marked) ∷ ask 17 t.changed ∷ ask 18 (ltb t.ledger.commit 4294967295) ∷ []
-plain_asks pageOut t = ask 28 (not (is_owed t.phase)) ∷ ask 19 (ltb 0 (length t.ledger.pending.waiting) || ltb 0 (length t.ledger.current.waiting)) ∷ []
+plain_asks page_out t = ask 28 (not (is_owed t.phase)) ∷ ask 19 (ltb 0 (length t.ledger.pending.waiting) || ltb 0 (length t.ledger.current.waiting)) ∷ []
 plain_asks advance t = advance_sums (plain_over t) (ledger_of t)
 plain_asks forecast t = []
 
@@ -230,7 +230,7 @@ plain_done snapshot t = answers done (record {
   ledger = after_snapshot t.ledger;
   frames = book_snapshot t.frames;
 })
-plain_done pageOut t = record {
+plain_done page_out t = record {
   answer = wrote page (plain_page_out t).block;
   write = some (plain_page_out t);
   next = record { rows = t.rows; changed = t.changed; phase = t.phase; ledger = after_page_out t.ledger; frames = t.frames };

@@ -10,7 +10,7 @@ use Rattle.card.specs.declared.range.Lookup.TheVariants.{Located, Gap, Outside}
 use Rattle.frames.specs.Parts.{CommittedParts, Readable}
 use Rattle.frames.specs.Promise as frames
 use Rattle.frames.specs.Promise.{Lent, meaning_of, common, Outcome, outcome_of, Keeps, FrameCall, FrameAnswer, numbered, past}
-use Rattle.pages.specs.Call.{PageCall, Call, start, on, snapshot, pageOut, advance, forecast, Answer, refused, done, counted, wrote, foretold, page_asks, edits, page_answer, page_refusal}
+use Rattle.pages.specs.Call.{PageCall, Call, start, on, snapshot, page_out, advance, forecast, Answer, refused, done, counted, wrote, foretold, page_asks, edits, page_answer, page_refusal}
 use Rattle.pages.specs.Change.{at_place, edit_frames}
 use Rattle.pages.specs.Needed.{needed}
 use Rattle.pages.specs.Page.{Page, page_of, format_card}
@@ -91,7 +91,7 @@ unfoldable pub asks : Call → Lent → List Question
 asks (start m) l = start_asks m l.card
 asks (on o c) l = common l ++ placed (address_of l o) (λ p. page_asks c (present_page l p) ++ room_asks (call_frames o c l) (meaning_of l))
 asks snapshot l = common l ++ snapshot_asks (meaning_of l)
-asks pageOut l = common l ++ page_out_asks (meaning_of l)
+asks page_out l = common l ++ page_out_asks (meaning_of l)
 asks advance l = common l ++ advance_asks (meaning_of (past (passed_of l) l))
 asks forecast l = common l
 
@@ -102,7 +102,7 @@ unfoldable pub frame_call : Call → Lent → FrameCall
 frame_call (start m) l = frames.start m
 frame_call (on o c) l = frames.change (call_frames o c l)
 frame_call snapshot l = frames.snapshot
-frame_call pageOut l = frames.pageOut
+frame_call page_out l = frames.page_out
 frame_call advance l = frames.advance (passed_of l)
 frame_call forecast l = frames.change []
 
@@ -111,7 +111,7 @@ unfoldable pub done_answer : Call → Lent → Answer
 done_answer (start m) l = done
 done_answer (on o c) l = at_place (page_refusal c 9) (address_of l o) (λ p. page_answer c (present_page l p))
 done_answer snapshot l = done
-done_answer pageOut l = answered (frames.done_answer frames.pageOut l)
+done_answer page_out l = answered (frames.done_answer frames.page_out l)
 done_answer advance l = answered (frames.done_answer (frames.advance (passed_of l)) l)
 done_answer forecast l = foretold (sums.forecast (over l) (meaning_of l))
 
@@ -119,7 +119,7 @@ unfoldable pub refusal : Call → ℕ → Answer
 refusal (start m) k = refused k
 refusal (on o c) k = page_refusal c k
 refusal snapshot k = refused k
-refusal pageOut k = refused k
+refusal page_out k = refused k
 refusal advance k = refused k
 refusal forecast k = refused k
 

@@ -22,7 +22,7 @@ use Rattle.recovery.proofs.Follows.{Follows, AllDown, empty_ordered, sorted-empt
 use Rattle.recovery.proofs.Invariant.{Invariant}
 use Rattle.recovery.proofs.OrderedLaws.{sorted_out, oldest_is, out_ordered, long_waiting, same_size, change_many, some_waiting}
 use Rattle.recovery.proofs.RoomLaws.{Room, room_told}
-use Rattle.recovery.proofs.Sorted.{SortedGeneration, count_of, size_of, sorted_empty, sorted_committed, sorted_generation, sorted, tail_block, trailer_at, Sorted, pendingOut, directoryDown, trailerDown, copyHome, headerDown, currentOut, next_home, sorted_write, sorted_after, sorted_change, sorted_snapshot}
+use Rattle.recovery.proofs.Sorted.{SortedGeneration, count_of, size_of, sorted_empty, sorted_committed, sorted_generation, sorted, tail_block, trailer_at, Sorted, pending_out, directory_down, trailer_down, copy_home, header_down, current_out, next_home, sorted_write, sorted_after, sorted_change, sorted_snapshot}
 use Rattle.recovery.proofs.StepHead.{step_H}
 use Rattle.recovery.proofs.StepMove.{step_M}
 use Rattle.recovery.proofs.StepOut.{step_P, step_C}
@@ -37,23 +37,23 @@ use Rattle.recovery.specs.Write.{BlockWrite, put_down}
 
 -- the sorted form of a kind: its write, and the state after it
 abbrev pub sorted_put : Kind → Sorted → List ℕ → Option BlockWrite
-sorted_put page s c = some (sorted_write pendingOut s c)
-sorted_put directory s c = some (sorted_write directoryDown s c)
-sorted_put trailer s c = some (sorted_write trailerDown s c)
-sorted_put migration s c = some (sorted_write copyHome s c)
-sorted_put header s c = some (sorted_write headerDown s c)
+sorted_put page s c = some (sorted_write pending_out s c)
+sorted_put directory s c = some (sorted_write directory_down s c)
+sorted_put trailer s c = some (sorted_write trailer_down s c)
+sorted_put migration s c = some (sorted_write copy_home s c)
+sorted_put header s c = some (sorted_write header_down s c)
 sorted_put flush s c = none
 
 abbrev pub sorted_next : Kind → Sorted → Sorted
-sorted_next page s = sorted_after pendingOut s
-sorted_next directory s = sorted_after directoryDown s
-sorted_next trailer s = sorted_after trailerDown s
-sorted_next migration s = sorted_after copyHome s
-sorted_next header s = sorted_after headerDown s
+sorted_next page s = sorted_after pending_out s
+sorted_next directory s = sorted_after directory_down s
+sorted_next trailer s = sorted_after trailer_down s
+sorted_next migration s = sorted_after copy_home s
+sorted_next header s = sorted_after header_down s
 sorted_next flush s = s
 
 -- it writes the same bytes to the same block
-pub same_page : (s : State) (c : List ℕ) → kind_write page s c ≡ sorted_write pendingOut (sorted s) c
+pub same_page : (s : State) (c : List ℕ) → kind_write page s c ≡ sorted_write pending_out (sorted s) c
 unfolding kind_write sorted_write
 same_page s c = λ i. record { block = ring_at s.area s.pending.first s.pending.pages_down; bytes = oldest_is s.area s.pending i }
 
@@ -298,7 +298,7 @@ module _ {needed : Needs} (blocks area : ℕ) (ranges : List Range) (s : State) 
 
   -- ---- page-out
 
-  current_after : 0 < length s.current.waiting → sorted_after currentOut (sorted s) ≡ sorted (current_to (out_of s.current) s)
+  current_after : 0 < length s.current.waiting → sorted_after current_out (sorted s) ≡ sorted (current_to (out_of s.current) s)
   unfolding sorted_after
   current_after h = λ i. record {
     area = s.area;
@@ -312,14 +312,14 @@ module _ {needed : Needs} (blocks area : ℕ) (ranges : List Range) (s : State) 
     current = sym (sorted_out s.area s.current f.current_ordered h) i;
   }
 
-  pub current_write : out_write s.area s.current ≡ sorted_write currentOut (sorted s) c
+  pub current_write : out_write s.area s.current ≡ sorted_write current_out (sorted s) c
   unfolding sorted_write
   current_write = λ i. record { block = ring_at s.area s.current.first s.current.pages_down; bytes = oldest_is s.area s.current i }
 
   page_invariant : (h : 0 < length s.pending.waiting) → Invariant needed blocks (sorted (pending_to (out_of s.pending) s.tail_down s)) (put_down (some (out_write s.area s.pending)) c) b
   unfolding sorted_after kind_write
   page_invariant h = rw (sorted_out s.area s.pending f.pending_ordered h)
-      (subst (λ (w : BlockWrite). Invariant needed blocks (sorted_after pendingOut (sorted s)) (put_block c w.block w.bytes) b) (sym (same_page s c)) (step_P blocks (sorted s) c b f.invariant (some_waiting s.pending h)))
+      (subst (λ (w : BlockWrite). Invariant needed blocks (sorted_after pending_out (sorted s)) (put_block c w.block w.bytes) b) (sym (same_page s c)) (step_P blocks (sorted s) c b f.invariant (some_waiting s.pending h)))
 
   module _ (ok : first_no (page_out_asks s) ≡ 0) where
     asked_out : (not (is_owed s.phase) ≡ true) × (0 < length s.pending.waiting + length s.current.waiting)
@@ -363,7 +363,7 @@ module _ {needed : Needs} (blocks area : ℕ) (ranges : List Range) (s : State) 
               blocks_is = f.blocks_is;
               area_is = f.area_is;
               ranges_is = f.ranges_is;
-              invariant = rw (← (current_after h)) (subst (λ (w : BlockWrite). Invariant needed blocks (sorted_after currentOut (sorted s)) (put_block c w.block w.bytes) b) (sym current_write) (step_C blocks (sorted s) c b f.invariant (some_waiting s.current h)));
+              invariant = rw (← (current_after h)) (subst (λ (w : BlockWrite). Invariant needed blocks (sorted_after current_out (sorted s)) (put_block c w.block w.bytes) b) (sym current_write) (step_C blocks (sorted s) c b f.invariant (some_waiting s.current h)));
               pending_ordered = f.pending_ordered;
               current_ordered = out_ordered s.current f.current_ordered h;
               migrated_within = f.migrated_within;

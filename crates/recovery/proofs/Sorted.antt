@@ -158,7 +158,7 @@ sorted_read s c = overlay s.current.waiting (overlay (stored_frames c s.current.
 -- ---- one block write
 
 pub data SortedWrite : Type 0 where
-  pendingOut directoryDown trailerDown copyHome headerDown currentOut : SortedWrite
+  pending_out directory_down trailer_down copy_home header_down current_out : SortedWrite
 
 abbrev pub sorted_out : ℕ → SortedGeneration → BlockWrite
 sorted_out area g = record { block = ring_at area g.first g.pages_down; bytes = (oldest g.waiting).bytes }
@@ -179,23 +179,23 @@ unfolding none_left
 next_home s = get_or s.committed.dir s.migrated none_left
 
 unfoldable pub sorted_write : SortedWrite → Sorted → List ℕ → BlockWrite
-sorted_write pendingOut s c = sorted_out s.area s.pending
-sorted_write currentOut s c = sorted_out s.area s.current
-sorted_write directoryDown s c = record { block = ring_at s.area s.pending.first (s.pending.pages_down + s.tail_down); bytes = tail_block (suc s.commit) s.pending s.tail_down }
-sorted_write trailerDown s c = record { block = ring_at s.area s.pending.first (s.pending.pages_down + s.tail_down); bytes = tail_block (suc s.commit) s.pending s.tail_down }
-sorted_write copyHome s c = record { block = (next_home s).frame; bytes = block_at c (next_home s).block }
-sorted_write headerDown s c = record { block = 0; bytes = header_block (suc s.commit) (trailer_at s.area s.pending) s.area s.ranges }
+sorted_write pending_out s c = sorted_out s.area s.pending
+sorted_write current_out s c = sorted_out s.area s.current
+sorted_write directory_down s c = record { block = ring_at s.area s.pending.first (s.pending.pages_down + s.tail_down); bytes = tail_block (suc s.commit) s.pending s.tail_down }
+sorted_write trailer_down s c = record { block = ring_at s.area s.pending.first (s.pending.pages_down + s.tail_down); bytes = tail_block (suc s.commit) s.pending s.tail_down }
+sorted_write copy_home s c = record { block = (next_home s).frame; bytes = block_at c (next_home s).block }
+sorted_write header_down s c = record { block = 0; bytes = header_block (suc s.commit) (trailer_at s.area s.pending) s.area s.ranges }
 
 abbrev pub card_after : SortedWrite → Sorted → List ℕ → List ℕ
 card_after k s c = put_block c (sorted_write k s c).block (sorted_write k s c).bytes
 
 unfoldable pub sorted_after : SortedWrite → Sorted → Sorted
-sorted_after pendingOut s = record { area = s.area; ranges = s.ranges; memory_frames = s.memory_frames; commit = s.commit; committed = s.committed; migrated = s.migrated; pending = paged_out s.area s.pending; tail_down = s.tail_down; current = s.current }
-sorted_after currentOut s = record { area = s.area; ranges = s.ranges; memory_frames = s.memory_frames; commit = s.commit; committed = s.committed; migrated = s.migrated; pending = s.pending; tail_down = s.tail_down; current = paged_out s.area s.current }
-sorted_after directoryDown s = record { area = s.area; ranges = s.ranges; memory_frames = s.memory_frames; commit = s.commit; committed = s.committed; migrated = s.migrated; pending = s.pending; tail_down = suc s.tail_down; current = s.current }
-sorted_after trailerDown s = record { area = s.area; ranges = s.ranges; memory_frames = s.memory_frames; commit = s.commit; committed = s.committed; migrated = s.migrated; pending = s.pending; tail_down = suc s.tail_down; current = s.current }
-sorted_after copyHome s = record { area = s.area; ranges = s.ranges; memory_frames = s.memory_frames; commit = s.commit; committed = s.committed; migrated = suc s.migrated; pending = s.pending; tail_down = s.tail_down; current = s.current }
-sorted_after headerDown s = record { area = s.area; ranges = s.ranges; memory_frames = s.memory_frames; commit = suc s.commit; committed = s.pending; migrated = 0; pending = sorted_empty s.current.first; tail_down = 0; current = s.current }
+sorted_after pending_out s = record { area = s.area; ranges = s.ranges; memory_frames = s.memory_frames; commit = s.commit; committed = s.committed; migrated = s.migrated; pending = paged_out s.area s.pending; tail_down = s.tail_down; current = s.current }
+sorted_after current_out s = record { area = s.area; ranges = s.ranges; memory_frames = s.memory_frames; commit = s.commit; committed = s.committed; migrated = s.migrated; pending = s.pending; tail_down = s.tail_down; current = paged_out s.area s.current }
+sorted_after directory_down s = record { area = s.area; ranges = s.ranges; memory_frames = s.memory_frames; commit = s.commit; committed = s.committed; migrated = s.migrated; pending = s.pending; tail_down = suc s.tail_down; current = s.current }
+sorted_after trailer_down s = record { area = s.area; ranges = s.ranges; memory_frames = s.memory_frames; commit = s.commit; committed = s.committed; migrated = s.migrated; pending = s.pending; tail_down = suc s.tail_down; current = s.current }
+sorted_after copy_home s = record { area = s.area; ranges = s.ranges; memory_frames = s.memory_frames; commit = s.commit; committed = s.committed; migrated = suc s.migrated; pending = s.pending; tail_down = s.tail_down; current = s.current }
+sorted_after header_down s = record { area = s.area; ranges = s.ranges; memory_frames = s.memory_frames; commit = suc s.commit; committed = s.pending; migrated = 0; pending = sorted_empty s.current.first; tail_down = 0; current = s.current }
 
 -- ---- the calls that write nothing
 

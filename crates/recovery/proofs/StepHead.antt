@@ -25,7 +25,7 @@ use Rattle.recovery.proofs.ContentsLaws.{stored_frames_same, overlay_without}
 use Rattle.recovery.proofs.GenerationLaws.{home_kept}
 use Rattle.recovery.proofs.Invariant.{Tail, Recoverable, Invariant, fresh_same, fresh-needed}
 use Rattle.recovery.proofs.SizeLaws.{quiet_count, quiet_size, empty-size}
-use Rattle.recovery.proofs.Sorted.{count_of, size_of, Sorted, sorted_empty, trailer_of, tail_block, trailer_at, headerDown, sorted_write, card_after, sorted_after}
+use Rattle.recovery.proofs.Sorted.{count_of, size_of, Sorted, sorted_empty, trailer_of, tail_block, trailer_at, header_down, sorted_write, card_after, sorted_after}
 use Rattle.recovery.proofs.TailLaws.{tail_dir, tail_trailer}
 use Rattle.recovery.proofs.Writes.{pending_place}
 use Rattle.recovery.specs.Book.{FrameBook, marked_or, book_header, Needs}
@@ -161,18 +161,18 @@ module _ {needed : Needs} (blocks : ℕ) (s : Sorted) (c : List ℕ) (b : FrameB
     view = new_view;
   }
 
-  pub recoverable_H : Recoverable needed blocks s.area s.ranges (suc s.commit) s.pending (card_after headerDown s c) (book_header b).kept
+  pub recoverable_H : Recoverable needed blocks s.area s.ranges (suc s.commit) s.pending (card_after header_down s c) (book_header b).kept
   unfolding sorted_write h d
   recoverable_H = new_recoverable
 
-  pub long_H : length (sorted_write headerDown s c).bytes ≡ 512
+  pub long_H : length (sorted_write header_down s c).bytes ≡ 512
   unfolding sorted_write h
   long_H = h_long
 
   current_at : s.current.first ≡ ring_at s.area s.pending.first (size_of s.pending)
   current_at = i.current_first_lem ∙ sym (pending_place blocks s c b i (size_of s.pending) (omega arith))
 
-  pub step_H : Invariant needed blocks (sorted_after headerDown s) (card_after headerDown s c) (book_header b)
+  pub step_H : Invariant needed blocks (sorted_after header_down s) (card_after header_down s c) (book_header b)
   unfolding sorted_write sorted_after h d overlay stored_frames count_of
   step_H =
       let none : size_of (sorted_empty s.current.first) ≡ 0 = empty-size s.current.first in

@@ -19,7 +19,7 @@ use Rattle.recovery.proofs.ContentsLaws.{stored_frames_same}
 use Rattle.recovery.proofs.GenerationLaws.{overlay_at}
 use Rattle.recovery.proofs.Harmless.{Harmless, moving, harmless_write}
 use Rattle.recovery.proofs.Invariant.{Invariant}
-use Rattle.recovery.proofs.Sorted.{size_of, Sorted, copyHome, next_home, sorted_write, card_after, sorted_after}
+use Rattle.recovery.proofs.Sorted.{size_of, Sorted, copy_home, next_home, sorted_write, card_after, sorted_after}
 use Rattle.recovery.proofs.Writes.{pending_place}
 use Rattle.recovery.specs.Book.{FrameBook, Needs}
 use Rattle.recovery.specs.Contents.{stored_frames}
@@ -62,11 +62,11 @@ module _ {needed : Needs} (blocks : ℕ) (s : Sorted) (c : List ℕ) (b : FrameB
       let other : n ≢ (next_home s).frame = all_at (λ e. n ≢ e.frame) s.committed.dir s.migrated _ none more in
       other refl)
 
-  pub harmless_M : Harmless blocks s.area s.committed (sorted_write copyHome s c).block
+  pub harmless_M : Harmless blocks s.area s.committed (sorted_write copy_home s c).block
   unfolding sorted_write n
   harmless_M = harmless
 
-  pub long_M : length (sorted_write copyHome s c).bytes ≡ 512
+  pub long_M : length (sorted_write copy_home s c).bytes ≡ 512
   unfolding sorted_write x
   long_M = long
 
@@ -87,7 +87,7 @@ module _ {needed : Needs} (blocks : ℕ) (s : Sorted) (c : List ℕ) (b : FrameB
       let inn = on_in s.area s.committed.first i.recoverable.low i.recoverable.high (size_of s.committed + k) (omega (arith, i.room)) in
       omega (arith, pending_place blocks s c b i k (omega arith), inn, high)
 
-  pub step_M : Invariant needed blocks (sorted_after copyHome s) (card_after copyHome s c) b
+  pub step_M : Invariant needed blocks (sorted_after copy_home s) (card_after copy_home s c) b
   unfolding sorted_write sorted_after n x next_home
   step_M = record {
     recoverable = harmless_write blocks s.area s.ranges s.commit s.committed c b.kept i.recoverable n harmless x long;

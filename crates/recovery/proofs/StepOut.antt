@@ -12,7 +12,7 @@ use Rattle.recovery.proofs.GenerationLaws.{out_held, out_apart, paged_out_ok, pa
 use Rattle.recovery.proofs.Harmless.{Harmless, free}
 use Rattle.recovery.proofs.Invariant.{Invariant}
 use Rattle.recovery.proofs.SizeLaws.{paged_out_count, paged_out-size, pages_below, pages_down_below}
-use Rattle.recovery.proofs.Sorted.{places_of, count_of, size_of, Sorted, oldest, pendingOut, currentOut, paged_out, sorted_write, card_after, sorted_after}
+use Rattle.recovery.proofs.Sorted.{places_of, count_of, size_of, Sorted, oldest, pending_out, current_out, paged_out, sorted_write, card_after, sorted_after}
 use Rattle.recovery.proofs.Writes.{pending_place, spot_in, spot_at, spot_harmless, spot_recoverable, spot_same, spot_stored_frames, spot_migrated, spot_tail_down}
 use Rattle.recovery.specs.Book.{FrameBook, Needs}
 
@@ -31,15 +31,15 @@ module _ {needed : Needs} (blocks : ℕ) (s : Sorted) (c : List ℕ) (b : FrameB
   at_P : ring_at s.area s.pending.first s.pending.pages_down ≡ ring_at s.area s.committed.first (size_of s.committed + s.pending.pages_down)
   at_P = pending_place blocks s c b i s.pending.pages_down (omega (arith, fits_P))
 
-  pub harmless_P : Harmless blocks s.area s.committed (sorted_write pendingOut s c).block
+  pub harmless_P : Harmless blocks s.area s.committed (sorted_write pending_out s c).block
   unfolding sorted_write
   harmless_P = spot_harmless blocks s c b i _ (size_of s.committed + s.pending.pages_down) at_P (omega arith) (omega (arith, i.room, fits_P))
 
-  pub long_P : length (sorted_write pendingOut s c).bytes ≡ 512
+  pub long_P : length (sorted_write pending_out s c).bytes ≡ 512
   unfolding sorted_write
   long_P = (out_held blocks s.area s.committed.first (size_of s.committed) s.pending i.pending_ok some).0.0
 
-  pub step_P : Invariant needed blocks (sorted_after pendingOut s) (card_after pendingOut s c) b
+  pub step_P : Invariant needed blocks (sorted_after pending_out s) (card_after pending_out s c) b
   unfolding sorted_write sorted_after
   step_P =
       let n : ℕ = ring_at s.area s.pending.first s.pending.pages_down in
@@ -86,16 +86,16 @@ module _ {needed : Needs} (blocks : ℕ) (s : Sorted) (c : List ℕ) (b : FrameB
   unfolding lo
   at_C = rw i.current_first_lem (on_on s.area s.committed.first i.recoverable.low i.recoverable.high lo s.current.pages_down (omega (arith, i.room, fits_C)))
 
-  pub harmless_C : Harmless blocks s.area s.committed (sorted_write currentOut s c).block
+  pub harmless_C : Harmless blocks s.area s.committed (sorted_write current_out s c).block
   unfolding sorted_write lo
   harmless_C = spot_harmless blocks s c b i _ (lo + s.current.pages_down) at_C (omega arith) (omega (arith, i.room, fits_C))
 
-  pub long_C : length (sorted_write currentOut s c).bytes ≡ 512
+  pub long_C : length (sorted_write current_out s c).bytes ≡ 512
   unfolding sorted_write lo
   long_C = (out_held blocks s.area s.committed.first lo s.current i.current_ok some).0.0
 
   -- nor does it lie in the pending stretch
-  pub beyond_C : Harmless blocks s.area s.pending (sorted_write currentOut s c).block
+  pub beyond_C : Harmless blocks s.area s.pending (sorted_write current_out s c).block
   unfolding sorted_write lo
   beyond_C =
       let n : ℕ = ring_at s.area s.current.first s.current.pages_down in
@@ -106,7 +106,7 @@ module _ {needed : Needs} (blocks : ℕ) (s : Sorted) (c : List ℕ) (b : FrameB
       let from-pending : ring_offset s.area s.pending.first n ≡ ring_offset s.area (ring_at s.area s.committed.first (size_of s.committed)) n = ap (λ (x : ℕ). ring_offset s.area x n) i.pending_first_lem in
       free inn.0 inn.1 (omega (arith, there, at, from-pending))
 
-  pub step_C : Invariant needed blocks (sorted_after currentOut s) (card_after currentOut s c) b
+  pub step_C : Invariant needed blocks (sorted_after current_out s) (card_after current_out s c) b
   unfolding sorted_write sorted_after lo
   step_C =
       let n : ℕ = ring_at s.area s.current.first s.current.pages_down in

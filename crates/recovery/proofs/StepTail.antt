@@ -10,7 +10,7 @@ use Rattle.card.specs.Block.{block_at, put_block}
 use Rattle.card.specs.Ring.{ring_at}
 use Rattle.recovery.proofs.Harmless.{Harmless}
 use Rattle.recovery.proofs.Invariant.{Invariant}
-use Rattle.recovery.proofs.Sorted.{size_of, Sorted, tail_block, directoryDown, trailerDown, sorted_write, card_after, sorted_after}
+use Rattle.recovery.proofs.Sorted.{size_of, Sorted, tail_block, directory_down, trailer_down, sorted_write, card_after, sorted_after}
 use Rattle.recovery.proofs.TailLaws.{tail_length}
 use Rattle.recovery.proofs.Writes.{pending_place, spot_harmless, spot_recoverable, spot_same, spot_stored_frames, spot_migrated, spot_tail_down}
 use Rattle.recovery.specs.Book.{FrameBook, Needs}
@@ -35,11 +35,11 @@ module _ {needed : Needs} (blocks : ℕ) (s : Sorted) (c : List ℕ) (b : FrameB
   unfolding q
   under = omega (arith, i.room)
 
-  pub harmless_D : Harmless blocks s.area s.committed (sorted_write directoryDown s c).block
+  pub harmless_D : Harmless blocks s.area s.committed (sorted_write directory_down s c).block
   unfolding sorted_write n
   harmless_D = spot_harmless blocks s c b i n q at up under
 
-  pub harmless_T : Harmless blocks s.area s.committed (sorted_write trailerDown s c).block
+  pub harmless_T : Harmless blocks s.area s.committed (sorted_write trailer_down s c).block
   unfolding sorted_write n
   harmless_T = spot_harmless blocks s c b i n q at up under
 
@@ -50,11 +50,11 @@ module _ {needed : Needs} (blocks : ℕ) (s : Sorted) (c : List ℕ) (b : FrameB
   unfolding x
   long = tail_length (suc s.commit) s.pending s.tail_down
 
-  pub long_D : length (sorted_write directoryDown s c).bytes ≡ 512
+  pub long_D : length (sorted_write directory_down s c).bytes ≡ 512
   unfolding sorted_write x
   long_D = long
 
-  pub long_T : length (sorted_write trailerDown s c).bytes ≡ 512
+  pub long_T : length (sorted_write trailer_down s c).bytes ≡ 512
   unfolding sorted_write x
   long_T = long
 
@@ -66,7 +66,7 @@ module _ {needed : Needs} (blocks : ℕ) (s : Sorted) (c : List ℕ) (b : FrameB
       let e : j ≡ s.tail_down = omega arith in
       rw e (spot_same blocks s c b i n q at up under x long)
 
-  pub step_D : Invariant needed blocks (sorted_after directoryDown s) (card_after directoryDown s c) b
+  pub step_D : Invariant needed blocks (sorted_after directory_down s) (card_after directory_down s c) b
   unfolding sorted_write sorted_after n q x
   step_D = record {
     recoverable = spot_recoverable blocks s c b i n q at up under x long;
@@ -87,6 +87,6 @@ module _ {needed : Needs} (blocks : ℕ) (s : Sorted) (c : List ℕ) (b : FrameB
     now = λ u f l h t. rw (spot_stored_frames blocks s c b i n q at up under x long _ _ s.current.dir i.current_ok.inside (λ m p k. omega arith)) (i.now u f l h t);
   }
 
-  pub step_T : Invariant needed blocks (sorted_after trailerDown s) (card_after trailerDown s c) b
+  pub step_T : Invariant needed blocks (sorted_after trailer_down s) (card_after trailer_down s c) b
   unfolding sorted_write sorted_after
   step_T = step_D

@@ -40,11 +40,11 @@ abbrev begun : tie.After-check → tie.Start
 begun c = c.before.before.before.before.before.before.before.before.before.before.before.before.before
 
 -- the number of 10, and of 11 by a test
-abbrev numberBy : tie.After-check → Bool → ℕ
-numberBy c t = first_no (key_asks (count_at c.before.before.load.result.now c.before.before.before.before.before.before.find.result.address.entry) (begun c).args.count 11 t)
+abbrev number_by : tie.After-check → Bool → ℕ
+number_by c t = first_no (key_asks (count_at c.before.before.load.result.now c.before.before.before.before.before.before.find.result.address.entry) (begun c).args.count 11 t)
 
-asked : (c : tie.After-check) → c.check.result ≡ numberBy c (leb (end (begun c)) 512)
-asked c = c.check.ensures ∙ ap (numberBy c) c.before.fits2.ensures
+asked : (c : tie.After-check) → c.check.result ≡ number_by c (leb (end (begun c)) 512)
+asked c = c.check.ensures ∙ ap (number_by c) c.before.fits2.ensures
 
 keyed : (c : tie.After-check) → c.check.result ≡ 0
     → Keyed (lent-to (begun c)) (begun c).args.oid (begun c).args.count c.before.before.before.before.before.before.find.result.address c.before.before.load.result.now (leb (end (begun c)) 512)
