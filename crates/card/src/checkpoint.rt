@@ -5,7 +5,7 @@ use super::trailer::Trailer;
 
 // What a card says. Where `refusal` is not 0, it is the number of the question that was answered "no", and the rest tells nothing.
 #[repr(C)]
-#[derive(Drop)]
+#[derive(Clone, Copy)]
 pub struct Checkpoint {
     pub refusal: u32,
     pub header: Header,

@@ -2,7 +2,7 @@
 
 // A frame, by its home block, and the area block that holds it.
 #[repr(C)]
-#[derive(Drop)]
+#[derive(Clone, Copy)]
 pub struct Entry {
     pub frame: u32,
     pub block: u32,
@@ -11,7 +11,7 @@ pub struct Entry {
 // Entries in two arrays, of which the first `count` matter: each a frame and the place of its block, which is so many
 // blocks on from the first of its generation. A generation's size is at most 256, so that a byte holds a place.
 #[repr(C)]
-#[derive(Drop)]
+#[derive(Clone, Copy)]
 pub struct Directory {
     pub count: usize,
     pub frames: [u16; 256],
@@ -20,7 +20,7 @@ pub struct Directory {
 
 // A directory read from a card, and the answer to question 8. Where that is "no", the directory tells nothing.
 #[repr(C)]
-#[derive(Drop)]
+#[derive(Clone, Copy)]
 pub struct ReadBack {
     pub fits: bool,
     pub directory: Directory,

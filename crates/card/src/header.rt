@@ -2,7 +2,7 @@
 
 // What a header says. `ranges` has the numbers of 8 ranges, of which the first 2 × count matter.
 #[repr(C)]
-#[derive(Drop)]
+#[derive(Clone, Copy)]
 pub struct Header {
     pub layout: u32,
     pub commit: u32,

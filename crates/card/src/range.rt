@@ -2,7 +2,7 @@
 
 // Where a page stands: its block, the block of its pot, and its entry there.
 #[repr(C)]
-#[derive(Drop)]
+#[derive(Clone, Copy)]
 pub struct Address {
     pub page: usize,
     pub pot: usize,
@@ -10,7 +10,7 @@ pub struct Address {
 }
 
 // What is at an OID: a page; a gap between two ranges; nothing, below the first range or above the last.
-#[derive(Drop)]
+#[derive(Clone, Copy)]
 pub enum Lookup {
     Located(Address),
     Gap,

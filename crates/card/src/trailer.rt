@@ -2,7 +2,7 @@
 
 // Commit number, first block, p and e of a generation.
 #[repr(C)]
-#[derive(Drop)]
+#[derive(Clone, Copy)]
 pub struct Trailer {
     pub commit: u32,
     pub first: usize,

@@ -41,7 +41,7 @@ pub fn put(card: &mut [u8], n: usize, bytes: &[u8])
 {
     let start = 512 * n;
     let end = start + 512;
-    bytes::copy(bytes, &mut card[start..end]);
+    card[start..end].copy_from_slice(bytes);
 }
 
 // Copies a block into a buffer.
@@ -49,7 +49,7 @@ pub fn get(card: &[u8], n: usize, buffer: &mut [u8])
     requires { (512 * n + 512 ≤ length card.now) × (length buffer.old ≡ 512) }
     ensures { buffer.new ≡ block_at card.now n }
 {
-    bytes::copy(at(card, n), buffer);
+    buffer.copy_from_slice(at(card, n));
 }
 
 // Copies one block of the card to another.
@@ -68,6 +68,6 @@ pub fn array(bytes: &[u8]) -> [u8; 512]
     ensures { result ≡ bytes.now }
 {
     let mut r = empty();
-    bytes::copy(bytes, &mut r);
+    r.copy_from_slice(bytes);
     r
 }

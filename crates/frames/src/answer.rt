@@ -3,7 +3,7 @@ use record::store::{Changes, Store};
 
 // Of a call that answers with a number: 0 is done, else it is the number of the question that was answered "no".
 #[repr(C)]
-#[derive(Drop)]
+#[derive(Clone, Copy)]
 pub struct Done {
     pub answer: u32,
     pub store: Store,
@@ -11,7 +11,7 @@ pub struct Done {
 
 // Of a write: the block written.
 #[repr(C)]
-#[derive(Drop)]
+#[derive(Clone, Copy)]
 pub struct Wrote {
     pub block: usize,
     pub store: Store,
@@ -19,7 +19,7 @@ pub struct Wrote {
 
 // What advance or page-out wrote: a waiting page, a directory block, the trailer, a migrated frame, the header, each
 // with its block; a flush, with block 0. Or the refusal's number.
-#[derive(Drop)]
+#[derive(Clone, Copy)]
 pub enum Advance {
     P(usize),
     D(usize),
@@ -30,7 +30,7 @@ pub enum Advance {
     Refused(u32),
 }
 
-#[derive(Drop)]
+#[derive(Clone, Copy)]
 pub struct Advanced {
     pub answer: Advance,
     pub store: Store,
@@ -38,7 +38,7 @@ pub struct Advanced {
 
 // A memory frame, or a block of the card.
 #[repr(C)]
-#[derive(Drop)]
+#[derive(Clone, Copy)]
 pub struct Found {
     pub memory: bool,
     pub number: usize,
@@ -46,7 +46,7 @@ pub struct Found {
 
 // How many new places and new entries frames need.
 #[repr(C)]
-#[derive(Drop)]
+#[derive(Clone, Copy)]
 pub struct Need {
     pub places: usize,
     pub entries: usize,
@@ -54,7 +54,7 @@ pub struct Need {
 
 // How many entries a generation has, and how many places are taken.
 #[repr(C)]
-#[derive(Drop)]
+#[derive(Clone, Copy)]
 pub struct Size {
     pub entries: usize,
     pub places: usize,
@@ -62,7 +62,7 @@ pub struct Size {
 
 // Of a change: its number, and the current generation then.
 #[repr(C)]
-#[derive(Drop)]
+#[derive(Clone, Copy)]
 pub struct Changed {
     pub answer: u32,
     pub current: Changes,

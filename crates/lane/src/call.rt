@@ -1,7 +1,7 @@
 // The calls over a lent record: each calls the by-value core, and puts the record back. Key, read and forecast change
 // nothing, so that there is none to put back: C gets them with a const record. Key and read are lent card and memory for
 // one lifetime, as their cores are.
-// Key, page-out, advance and forecast answer with an enum, and with numbers for C.
+// Key, page-out, advance and forecast answer with an enum, and with numbers for C, to which `lane_c` hands these out.
 ghost use Rattle.std.specs.Prelude.{◌≡◌};
 ghost use Rattle.frames.specs.Promise.{lent, numbered, reported};
 ghost use Rattle.pages.specs.Call as call;
@@ -20,24 +20,21 @@ use record::store::Store;
 
 // The version of this interface: the record's form, the answers and the calls. A program compares it with the one of
 // the header that it was compiled with.
-#[unsafe(no_mangle)]
-pub extern "C" fn lane_version() -> u32
+pub fn lane_version() -> u32
     ensures { result ≡ version }
 {
     3
 }
 
 // Format takes no record.
-#[unsafe(no_mangle)]
-pub extern "C" fn lane_format(card: &mut [u8], area: usize, ranges: &[u32]) -> u32
+pub fn lane_format(card: &mut [u8], area: usize, ranges: &[u32]) -> u32
     ensures { FormatKept area ranges.now card.old (answered (numbered result)) card.new }
 {
     format::format(card, area, ranges)
 }
 
 // Start does not read the record that it is lent.
-#[unsafe(no_mangle)]
-pub extern "C" fn lane_start(s: &mut Store, card: &[u8], memory: &[u8]) -> u32
+pub fn lane_start(s: &mut Store, card: &[u8], memory: &[u8]) -> u32
     ensures { Linked (call.start memory.now) (lent zero_store memory.now card.now) (number result) (lent s.new memory.now card.now) }
 {
     let d = number::start(*s, card, memory);
@@ -45,8 +42,7 @@ pub extern "C" fn lane_start(s: &mut Store, card: &[u8], memory: &[u8]) -> u32
     d.answer
 }
 
-#[unsafe(no_mangle)]
-pub extern "C" fn lane_key<'s, 'a>(
+pub fn lane_key<'s, 'a>(
     s: &'s mut Store,
     card: &'a [u8],
     memory: &'a [u8],
@@ -58,8 +54,7 @@ pub extern "C" fn lane_key<'s, 'a>(
     number::key(*s, card, memory, oid)
 }
 
-#[unsafe(no_mangle)]
-pub extern "C" fn lane_read<'s, 'a, 'b>(
+pub fn lane_read<'s, 'a, 'b>(
     s: &'s mut Store,
     card: &'a [u8],
     memory: &'a [u8],
@@ -73,8 +68,7 @@ pub extern "C" fn lane_read<'s, 'a, 'b>(
     read::read(*s, card, memory, oid, count, buffer)
 }
 
-#[unsafe(no_mangle)]
-pub extern "C" fn lane_write(
+pub fn lane_write(
     s: &mut Store,
     card: &[u8],
     memory: &mut [u8],
@@ -90,8 +84,7 @@ pub extern "C" fn lane_write(
     d.answer
 }
 
-#[unsafe(no_mangle)]
-pub extern "C" fn lane_rescind(
+pub fn lane_rescind(
     s: &mut Store,
     card: &[u8],
     memory: &mut [u8],
@@ -105,8 +98,7 @@ pub extern "C" fn lane_rescind(
     d.answer
 }
 
-#[unsafe(no_mangle)]
-pub extern "C" fn lane_snapshot(s: &mut Store, card: &[u8], memory: &[u8]) -> u32
+pub fn lane_snapshot(s: &mut Store, card: &[u8], memory: &[u8]) -> u32
     ensures { Linked call.snapshot (lent s.old memory.now card.now) (number result) (lent s.new memory.now card.now) }
 {
     let d = snapshot::snapshot(*s, card, memory);
@@ -114,8 +106,7 @@ pub extern "C" fn lane_snapshot(s: &mut Store, card: &[u8], memory: &[u8]) -> u3
     d.answer
 }
 
-#[unsafe(no_mangle)]
-pub extern "C" fn lane_page_out(s: &mut Store, card: &mut [u8], memory: &[u8]) -> Report
+pub fn lane_page_out(s: &mut Store, card: &mut [u8], memory: &[u8]) -> Report
     ensures { Linked call.page_out (lent s.old memory.now card.old) (report result.kind result.refusal result.block) (lent s.new memory.now card.new) }
 {
     let d = number::page_out(*s, card, memory);
@@ -123,8 +114,7 @@ pub extern "C" fn lane_page_out(s: &mut Store, card: &mut [u8], memory: &[u8]) -
     d.answer
 }
 
-#[unsafe(no_mangle)]
-pub extern "C" fn lane_advance(s: &mut Store, card: &mut [u8], memory: &[u8]) -> Report
+pub fn lane_advance(s: &mut Store, card: &mut [u8], memory: &[u8]) -> Report
     ensures { Linked call.advance (lent s.old memory.now card.old) (report result.kind result.refusal result.block) (lent s.new memory.now card.new) }
 {
     let d = number::advance(*s, card, memory);
@@ -132,8 +122,7 @@ pub extern "C" fn lane_advance(s: &mut Store, card: &mut [u8], memory: &[u8]) ->
     d.answer
 }
 
-#[unsafe(no_mangle)]
-pub extern "C" fn lane_forecast(s: &mut Store, card: &[u8], memory: &[u8]) -> Foretold
+pub fn lane_forecast(s: &mut Store, card: &[u8], memory: &[u8]) -> Foretold
     ensures { Linked call.forecast (lent s.old memory.now card.now) (foretelling result.refusal result.advances) (lent s.new memory.now card.now)
         × (s.new ≡ s.old) }
 {

@@ -2,45 +2,49 @@
 // gave it, what each limit lets through, document 02's case of an empty page, and the forecast along the whole run. The
 // cases are lines of the file `stdin`, which says how they are written; for each a line is printed, its name and what
 // its calls tell.
+#![tactic(auto)]
+
 mod call;
 mod play;
 
-ghost use Rattle.std.specs.Prelude.{◌≤◌, ◌<◌, length};
+ghost use Rattle.std.specs.Prelude.{◌≤◌, ◌<◌, length, IfOk};
 
-use libc::{STDIN_FILENO, STDOUT_FILENO};
+use std::io;
+use std::io::{Read, Write};
 
 // One case: a name, a colon, a space and steps.
-fn run(line: &[u8]) {
+fn run(rt: &impl Print, line: &[u8]) -> io::Result<()> {
     let colon = script::until(line, 0, b':');
-    io::write_all(STDOUT_FILENO, &line[0..colon]);
+    io::writer(rt).write_all(&line[0..colon])?;
     let from = colon + 2;
     if from <= line.len() {
-        play::play(&line[from..]);
+        play::play(rt, &line[from..])?;
     }
-    io::write_all(STDOUT_FILENO, b"\n");
+    println!(rt)
 }
 
 // The line that begins at `at`, and where the next one begins. A line that begins with # is a comment.
-fn next(text: &[u8], at: usize) -> usize
+fn next(rt: &impl Print, text: &[u8], at: usize) -> io::Result<usize>
     requires { at < length text.now }
-    ensures { at < result }
+    ensures { IfOk result (λ end. at < end) }
 {
     let end = script::until(text, at, b'\n');
     if text[at] != b'#' {
-        run(&text[at..end]);
+        run(rt, &text[at..end])?;
     }
-    end + 1
+    Ok(end + 1)
 }
 
-fn all(text: &[u8]) {
+fn all(rt: &impl Print, text: &[u8]) -> io::Result<()> {
     let mut at = 0;
     while at < text.len() {
-        at = next(text, at);
+        at = next(rt, text, at)?;
     }
+    Ok(())
 }
 
-fn main() {
-    let mut text = io::large_buffer();
-    let count = io::read_full(STDIN_FILENO, &mut text);
-    all(&text[..count]);
+fn main(rt: HostRuntime) -> io::Result<()> {
+    let mut text = Vec::new(rt.alloc());
+    rt.reader().take(65536).read_to_end(&mut text)?;
+    all(&rt, &text)
 }

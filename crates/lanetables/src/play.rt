@@ -3,10 +3,10 @@ ghost use Rattle.std.specs.Prelude.{◌≤◌, ◌<◌, length};
 
 use super::call;
 use card_blocks::number;
-use libc::STDOUT_FILENO;
 use linked::answer::{Report, Reported};
 use record_list::store;
 use script::Step;
+use std::io;
 
 // The step at `at`. A word's number, below and in `call`, is its place here, from 0 on.
 fn step(steps: &[u8], at: usize) -> Step
@@ -21,42 +21,55 @@ fn step(steps: &[u8], at: usize) -> Step
 }
 
 // Prints what the step before told.
-fn tell(a: Report) {
-    let kinds = b"-PDTMHF";
+fn tell(rt: &impl Print, a: Report) -> io::Result<()> {
+    let kinds = ['-', 'P', 'D', 'T', 'M', 'H', 'F'];
     let kind = number::wide(a.kind) % 7;
+    let refusal = a.refusal;
+    let block = a.block;
     if kind == 0 {
-        io::write_all(STDOUT_FILENO, b" ");
-        io::print_decimal(STDOUT_FILENO, a.refusal as u64);
-    } else {
-        io::write_all(STDOUT_FILENO, &[b' ', kinds[kind], b' ']);
-        io::print_decimal(STDOUT_FILENO, a.block as u64);
+        return print!(rt; " {refusal}");
     }
+    let letter = kinds[kind];
+    print!(rt; " {letter} {block}")
 }
 
-fn act(m: Reported, card: &mut [u8], memory: &mut [u8], step: Step) -> Reported {
+fn act(
+    rt: &impl Print,
+    m: Reported,
+    card: &mut [u8],
+    memory: &mut [u8],
+    step: Step,
+) -> io::Result<Reported> {
     let word = step.word;
     match word {
-        1..=6 => call::on_card(m.store, card, memory, step),
+        1..=6 => Ok(call::on_card(m.store, card, memory, step)),
         7..=16 => {
             let d = call::on_memory(m.store, card, memory, step);
-            call::told(d.answer, d.store)
+            Ok(call::told(d.answer, d.store))
         }
         _ => {
-            tell(m.answer);
-            m
+            tell(rt, m.answer)?;
+            Ok(m)
         }
     }
 }
 
 // From the step at `from` on.
-fn act_all(steps: &[u8], from: usize, card: &mut [u8], memory: &mut [u8]) {
+fn act_all(
+    rt: &impl Print,
+    steps: &[u8],
+    from: usize,
+    card: &mut [u8],
+    memory: &mut [u8],
+) -> io::Result<()> {
     let mut m = call::told(0, store::zeros());
     let mut at = from;
     while at < steps.len() {
         let step = step(steps, at);
         at = step.next;
-        m = act(m, card, memory, step);
+        m = act(rt, m, card, memory, step)?;
     }
+    Ok(())
 }
 
 // So many times 512 bytes; none where that is more than there are.
@@ -76,11 +89,11 @@ fn blocks() -> [u8; 264192] {
 }
 
 // The first step says how many blocks and memory frames are lent, up to 516 and 65.
-pub fn play(steps: &[u8]) {
+pub fn play(rt: &impl Print, steps: &[u8]) -> io::Result<()> {
     let mut card = blocks();
     let mut memory = [0u8; 33280];
     let step = step(steps, 0);
     let end = size(step.first, 264192);
     let far = size(step.second, 33280);
-    act_all(steps, step.next, &mut card[0..end], &mut memory[0..far]);
+    act_all(rt, steps, step.next, &mut card[0..end], &mut memory[0..far])
 }

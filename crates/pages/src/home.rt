@@ -2,7 +2,7 @@
 use card::range::Address;
 
 // A page, by its place, or a pot.
-#[derive(Drop)]
+#[derive(Clone, Copy)]
 pub enum Frame {
     Page(Address),
     Pot,

@@ -3,7 +3,7 @@ use card::range::Address;
 
 // Where it stands. `refusal` is 21 or 9, or 0 where it has a place.
 #[repr(C)]
-#[derive(Drop)]
+#[derive(Clone, Copy)]
 pub struct Named {
     pub refusal: u32,
     pub address: Address,

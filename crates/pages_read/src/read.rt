@@ -36,9 +36,9 @@ pub fn read<'a>(
     }
     if named::is_zero(pot, n.address.entry) {
         let empty = block::empty();
-        bytes::copy(&empty, buffer);
+        buffer.copy_from_slice(&empty);
         return 0;
     }
-    bytes::copy(load::load(s, card, memory, n.address.page), buffer);
+    buffer.copy_from_slice(load::load(s, card, memory, n.address.page));
     0
 }

@@ -1,4 +1,6 @@
 // Code of `pages` that changes a page: write and rescind.
+#![tactic(auto)]
+
 mod answer;
 pub mod rescind;
 pub mod write;

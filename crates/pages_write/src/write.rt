@@ -31,7 +31,7 @@ fn patch(bytes: &mut [u8], at: usize, new: &[u8])
     ensures { bytes.new ≡ patch bytes.old at new.now }
 {
     let end = at + new.len();
-    bytes::copy(new, &mut bytes[at..end]);
+    bytes[at..end].copy_from_slice(new);
 }
 
 // New bytes on an empty frame, and the page's pot after it.

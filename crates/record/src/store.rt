@@ -3,7 +3,7 @@ use card::directory::Directory;
 
 // The card's size, A, and the ranges: first OID and number of pages of each in turn.
 #[repr(C)]
-#[derive(Drop)]
+#[derive(Clone, Copy)]
 pub struct Geometry {
     pub blocks: usize,
     pub area: usize,
@@ -15,7 +15,7 @@ pub struct Geometry {
 // places taken; places put down. Place i is the block i on from the generation's first: a generation's size is at
 // most 256, so that a byte holds its places. A frame waits where its place is not down.
 #[repr(C)]
-#[derive(Drop)]
+#[derive(Clone, Copy)]
 pub struct Changes {
     pub count: usize,
     pub taken: usize,
@@ -31,7 +31,7 @@ pub struct Changes {
 // committed entries copied home or passed over, `tail` the pending directory's and trailer's blocks that are down.
 // There is no gap between the fields: a record that is put together anew from the same fields has the same bytes.
 #[repr(C)]
-#[derive(Drop)]
+#[derive(Clone, Copy)]
 pub struct Store {
     pub frames: usize,
     pub head: usize,

@@ -1,9 +1,11 @@
 // Cases as text, for programs that make calls and print what is answered: a line for each case, its name, a colon and
 // steps. A step is a word and the numbers behind it.
+#![tactic(auto)]
+
 ghost use Rattle.std.specs.Prelude.{◌≤◌, ◌<◌, length};
 
 // The numbers behind a word: the first `count` were given, the others are 0. `next` is where the next step begins.
-#[derive(Drop)]
+#[derive(Clone, Copy)]
 struct Numbers {
     list: [u32; 20],
     count: usize,
@@ -12,7 +14,7 @@ struct Numbers {
 
 // A word, by its place among the names, and its numbers. The first five have a field each: what uses them is proved
 // faster than by looking into the list.
-#[derive(Drop)]
+#[derive(Clone, Copy)]
 pub struct Step {
     pub word: usize,
     pub first: u32,

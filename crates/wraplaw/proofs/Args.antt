@@ -12,7 +12,7 @@ use mathlib.Core.List.{List, [], ◌∷◌, ◌++◌}
 use lib.Dec.{T}
 use lib.ListN.{get_or}
 use seplogic.Ra.Ura.{Ura}
-use seplogic.Ra.TreeShare.{full_share}
+use base.Fraction.{full_share}
 use mir.Syntax.{Lifetime, erased, mut, w64, Ty, ty_int, ty_ref, ty_enum, ttnil, Local, local, value_local, Step as PStep, field, deref, place, Opd as Operand, copy, addr_of, aggregate, Fn, Body, seq, assign}
 use mir.Val.{Val, WT, has_ty, vint, vptr}
 use base.Logic.{SProp}
@@ -126,8 +126,8 @@ module _ {M : Type 1} {𝓤 : Ura M} {𝓛 : Logic 𝓤} {K : Type 0} where
 
   -- ---- allocated
   alloc_all : K → {Γ : List (Item 𝓤)} (ls ls' : List Local) (Kt : Env 𝓤 H → Goal 𝓤 H) → ((bs : Blocks ls) → Seq K 𝓛 (onto (rooms ls bs) Γ) (allocs ls' (λ E. Kt (env ls bs E)))) → Seq K 𝓛 Γ (allocs (ls ++ ls') Kt)
-  alloc_all t [] ls' Kt k = k tt
-  alloc_all t (local τ h ∷ ls) ls' Kt k = alloc1 t (λ b. alloc_all t ls ls' (λ E. Kt ((τ, b) ∷ E)) (λ bs. k (b, bs)))
+  alloc_all t {Γ = Γ} [] ls' Kt k = k tt
+  alloc_all t {Γ = Γ} (local τ h ∷ ls) ls' Kt k = alloc1 t (λ b. alloc_all t {Γ = ‵ (froom τ b zero) ∷ ‵ (fdies τ b) ∷ Γ} ls ls' (λ E. Kt ((τ, b) ∷ E)) (λ bs. k (b, bs)))
 
   -- ---- passed, within whatever stands in front
   pass_args : K → (F : List (Item 𝓤) → List (Item 𝓤)) → ((Γ Γ' : List (Item 𝓤)) (τ : Ty) (b : ℕ) (v : Val) → Writes K 𝓛 Γ τ b zero v Γ' → Writes K 𝓛 (F Γ) τ b zero v (F Γ')) → (Γ : List (Item 𝓤)) (E : Env 𝓤 H) {g : Goal 𝓤 H} (as₀ : List Arg) (bs : Blocks (locals (params as₀)))

@@ -12,8 +12,8 @@ use Prim.Native.Nat.{ℕ, zero, suc}
 use mathlib.Core.List.{◌++◌}
 use lib.ListN.{get_or}
 use seplogic.Ra.Ura.{Ura}
-use seplogic.Ra.TreeShare.{full_share}
-use mir.Syntax.{named, erased, mut, Ty, ty_ref, Name, Fn, Local, local, value_local, memory_slot, place, copy, rv_opd, addr_of, aggregate, Body as Code, seq, assign, call, return}
+use base.Fraction.{full_share}
+use mir.Syntax.{named, erased, mut, Ty, ty_ref, Callee as Called, Fn, Local, local, value_local, memory_slot, place, copy, rv_opd, addr_of, aggregate, Body as Code, seq, assign, call, return}
 use mir.Val.{Val, vptr, vstruct, of_list}
 use base.Logic.{SProp, id⊢, ent, sep, emp, ex, via, fst∗}
 use base.Fml.{GName, Fml, fsep, fat, froom, fdies, flft, fres, flent}
@@ -51,7 +51,7 @@ use denote.Triple.Statement.{Triple}
 use Rattle.wraplaw.proofs.Walk.{onto}
 use Rattle.wraplaw.proofs.Args.{Arg, no_local, env, skip, get_skip, vals, locals, params, temps, operands, lends as lends-slices, cells, finds_at, free_all, enters, readable, operands_read, lends_all}
 use Rattle.wraplaw.proofs.Params.{raised, slots, spells, all_tell, machine, args, passing, up, values, words, same_words, same_owned, finals, same_said}
-use Rattle.wraplaw.proofs.Wrap.{Promise, promised, Answering, Cited, Keeping, Core, Wrapper, gone, meets, IsCode}
+use Rattle.wraplaw.proofs.Wrap.{Promise, promised, Answering, Cited, Keeping, Settled, Core, Wrapper, gone, meets, IsCode}
 
 -- a value that a function's exit does not change: what is said of it there is had for nothing
 pub unmoved : {M : Type 1} {𝓤 : Ura M} (𝓛 : Logic 𝓤) {X : Type 0} (e : Exit X) → e ≡ unchanged → (x : X) → (w : Last e x) × ent 𝓤 (emp 𝓤) (sem 𝓛 (left e x w))
@@ -100,13 +100,13 @@ module _ (S : Declared) (L : LL.Laws S) (pl : Plains (fields S)) where
 
     came : (v : Val) → ent 𝓤 ((Keeping 𝓛 T φ).post asks v) (After v)
     came v =
-        qed 𝓛 (later (some (λ (r : R.Denot). ((‵ (flft (ν ∷ []) full_share) ⊛ raw (toks 𝓛 m κs qs)) ⊛ ‵ (R.own r (v ∷ []))) ⊛ some (λ (ws : Lasts T κs' (x, bs)). ‵ (fsep (fres γ ((row S).coded.code ws.0)) (lasts_of κs' ss (all yes ss) bs ws.1)) ⊛ raw (fact 𝓤 (φ κs' (x, bs) r (at_exit T κs' (x, bs) ws)))))) ∷ []) ∵
-        updating ! $ await ! tt $ pick ! (λ r. split ! $ split ! $ split ! $ move ! (2 ∷ []) $ use1 𝓛 (raw (fact 𝓤 (Is R r (v ∷ [])))) (shows 𝓛 R r (v ∷ [])) $ move ! (3 ∷ []) $ pick ! (λ ws. split ! $ fsplit ! $ at_once ! $
+        qed 𝓛 (later (some (λ (r : R.Denot). ((‵ (flft (ν ∷ []) full_share) ⊛ raw (toks 𝓛 m κs qs)) ⊛ ‵ (R.own_val r (v ∷ []))) ⊛ some (λ (ws : Lasts T κs' (x, bs)). ‵ (fsep (Settled S L pl (ν ∷ []) x ws.0) (lasts_of κs' ss (all yes ss) bs ws.1)) ⊛ raw (fact 𝓤 (φ κs' (x, bs) r (at_exit T κs' (x, bs) ws)))))) ∷ []) ∵
+        updating ! $ await ! tt $ pick ! (λ r. split ! $ split ! $ split ! $ move ! (2 ∷ []) $ use1 𝓛 (raw (fact 𝓤 (Is R r (v ∷ [])))) (shows 𝓛 R r (v ∷ [])) $ move ! (3 ∷ []) $ pick ! (λ ws. split ! $ fsplit ! $ fsplit ! $ move ! (1 ∷ []) $ drop ! $ at_once ! $
         show ! (λ (z : Came). sep 𝓤 (fact 𝓤 (Is R z.0 (v ∷ []))) (sep 𝓤 (A.res γ ((row S).coded.code z.1.0)) (sep 𝓤 (A.lft (ν ∷ []) full_share) (Left z)))) (r, ws) $
         -- [the record's last value; the others'; the promise; what the result's type relates; the loan's token; the other tokens]
         move ! (3 ∷ 0 ∷ 4 ∷ 1 ∷ 5 ∷ 2 ∷ []) $ done !))
 
-    lent_to : (C : Calls 𝓤 H) → FmC 𝓤 H 𝓛.laws C → (j : Name) → Triple 𝓤 (C j) (Keeping 𝓛 T φ) → ent 𝓤 (Asked 𝓛 h ν l γ (toks 𝓛 m κs qs) (owns (types_at ss κs') bs vss)) (C j (vptr l zero ∷ flat (types_at ss κs') vss) After)
+    lent_to : (C : Calls 𝓤 H) → FmC 𝓤 H 𝓛.laws C → (j : Called) → Triple 𝓤 (C j) (Keeping 𝓛 T φ) → ent 𝓤 (Asked 𝓛 h ν l γ (toks 𝓛 m κs qs) (owns (types_at ss κs') bs vss)) (C j (vptr l zero ∷ flat (types_at ss κs') vss) After)
     lent_to C fm j known =
         via 𝓤 ((Keeping 𝓛 T φ).pre asks)
         (qed 𝓛 (‵ (flft (ν ∷ []) full_share) ∷ ‵ ((MutRef (named 0) (ν ∷ []) (row S)).own_val x (mut_vals x)) ∷ raw (toks 𝓛 m κs qs) ∷ ‵ (owns (types_at ss κs') bs vss) ∷ []) ∵
@@ -158,7 +158,7 @@ module _ (S : Declared) (L : LL.Laws S) (pl : Plains (fields S)) where
           via 𝓤 (on_entry 𝓛 T'.signature κs y.0.1 (h, bs) y.0.4) (fst∗ 𝓤 (on_entry 𝓛 T'.signature κs y.0.1 (h, bs) y.0.4) (emp 𝓤))
           (said 𝓛 T'.signature κs y.0.1 (LL.vals S L, sp κs) (LL.tells S L, tl κs) (h, bs)
           (λ ws. WpFn 𝓤 H C Λ fn (flat (types_at T'.signature.params κs) ws) ((Keeping 𝓛 T' φ).post ((κs, y.0.1, tt, (h, bs), ws), y.1))) y.0.4
-          (λ are. qed 𝓛 (raw (toks 𝓛 m κs y.0.1) ∷ ‵ (fsep ((row S).own h (LL.vals S L h)) (owns (types_at ss κs) bs us)) ∷ []) ∵ move ! (1 ∷ []) $ fsplit ! $ drop ! $ move ! (1 ∷ 0 ∷ []) $
+          (λ are. qed 𝓛 (raw (toks 𝓛 m κs y.0.1) ∷ ‵ (fsep ((row S).own_val h (LL.vals S L h)) (owns (types_at ss κs) bs us)) ∷ []) ∵ move ! (1 ∷ []) $ fsplit ! $ drop ! $ move ! (1 ∷ 0 ∷ []) $
           k κs y.0.1 h bs are.0 are.1))
 
     -- ---- the law, for an answer at R, whose MIR type is τ
@@ -178,10 +178,10 @@ module _ (S : Declared) (L : LL.Laws S) (pl : Plains (fields S)) where
     abbrev last_part : List Arg → Code
     last_part as₀ = seq (assign (place (u_local as₀) []) (rv_opd (copy (place (after as₀ 0) [])))) (seq (assign (place 0 []) (aggregate (copy (place (after as₀ 1) []) ∷ copy (place (u_local as₀) []) ∷ []))) return)
 
-    abbrev call_part : Name → List Arg → Code
+    abbrev call_part : Called → List Arg → Code
     call_part j as₀ = seq (call j (copy (place (after as₀ 2) []) ∷ operands 2 (after as₀ 3) as₀) (place (after as₀ 1) [])) (last_part as₀)
 
-    abbrev lender_body : Name → List Arg → Code
+    abbrev lender_body : Called → List Arg → Code
     lender_body j as₀ = seq (assign (place (after as₀ 0) []) (rv_opd (copy (place 1 [])))) (seq (assign (place (after as₀ 2) []) (addr_of (place (after as₀ 0) []))) (lends-slices 2 (after as₀ 3) as₀ (call_part j as₀)))
 
     module _ {M : Type 1} {𝓤 : Ura M} (𝓛 : Logic 𝓤) (C : Calls 𝓤 𝓛.H) (Λ : Loops 𝓤 𝓛.H) (fm : FmC 𝓤 𝓛.H 𝓛.laws C) where
@@ -199,7 +199,7 @@ module _ (S : Declared) (L : LL.Laws S) (pl : Plains (fields S)) where
           let k = ans.whole a w v p q in
           subst (λ (us : List Val). Typed (ans.τ ∷ layout (shape S) ∷ []) us) k.1.0 (subst (λ (τs : List Ty). Typed τs (flat (fields D) k.0)) ans.mir_is (typeds 𝓛 (fields D) (LL.lawfuls 𝓛 D.parts ans.laws) (D.to (ans.make a w)) k.0 k.1.1))
 
-      lends : (fn : Fn) (j : Name) (as₀ : List Arg) → fn.locals ≡ lender_locals as₀ → fn.body ≡ lender_body j as₀ → (h : S.D) → Is (row S) h (LL.vals S L h) → (Toks : SProp 𝓤) (Owns : Fml)
+      lends : (fn : Fn) (j : Called) (as₀ : List Arg) → fn.locals ≡ lender_locals as₀ → fn.body ≡ lender_body j as₀ → (h : S.D) → Is (row S) h (LL.vals S L h) → (Toks : SProp 𝓤) (Owns : Fml)
           → (Z : ℕ → ℕ → GName → Type 0) (r : (ν l : ℕ) (γ : GName) → Z ν l γ → R.Denot) (w : (ν l : ℕ) (γ : GName) → Z ν l γ → S.D) (Out : (ν l : ℕ) (γ : GName) → Z ν l γ → SProp 𝓤)
           → ((ν l : ℕ) (γ : GName) → ent 𝓤 (Asked 𝓛 h ν l γ Toks Owns) (C j (vptr l zero ∷ vals as₀) (GivenBack 𝓛 R ν γ (Z ν l γ) (r ν l γ) (w ν l γ) (Out ν l γ))))
           → (Kf : Val → SProp 𝓤) → ((ν l : ℕ) (γ : GName) (z : Z ν l γ) (v : Val) → Is (row D) (ans.make (r ν l γ z) (w ν l γ z)) (v ∷ []) → ent 𝓤 (Out ν l γ z) (Kf v))
@@ -228,7 +228,7 @@ module _ (S : Declared) (L : LL.Laws S) (pl : Plains (fields S)) where
           E ! C Λ (at_ret E Kf) (call_part j as₀) 2 (after as₀ 3) as₀ bs ts (onto (cells (params as₀) bs) []) at tat (readable 𝓛 (Go {0}) ! as₀ bs []) (
           -- t is lent
           lft_new ! tt (λ ν. move ! (7 ∷ []) $ use1 𝓛 (‵ (cell_at full_share (row S).mir (LL.vals S L h) lᵗ zero)) (𝓛.laws.at_raw full_share σ lᵗ zero (LL.val S L h)) $
-          owned ! (row S) (Is (row S)) (LL.makes S pl 𝓛) h (LL.vals S L h) was $ move ! (1 ∷ 0 ∷ []) $ fjoin ! $ fpack ! (List Val) (λ us. fsep (cell_at full_share (row S).mir us lᵗ zero) ((row S).own h us)) (LL.vals S L h) $
+          owned ! (row S) (Is (row S)) (LL.makes S pl 𝓛) h (LL.vals S L h) was $ move ! (1 ∷ 0 ∷ []) $ fjoin ! $ fpack ! (List Val) (λ us. fsep (cell_at full_share (row S).mir us lᵗ zero) ((row S).own_val h us)) (LL.vals S L h) $
           use1 𝓛 (later (some (λ (γ : GName). ‵ ((MutRef (named 0) (ν ∷ []) (row S)).own_val (lent h lᵗ γ) (mut_vals (lent h lᵗ γ))) ⊛ ‵ (flent (ν ∷ []) (Body (mem (row S)) lᵗ zero γ))))) (lends_ref 𝓛 (row S) (named 0) (ν ∷ []) h lᵗ zero) $ await ! tt $ pick ! (λ γ. split ! $
           -- [the borrow; the lender's part; the lifetime's token; room for u; …; &mut t; …; room for c; …; t's end; _1; …; room for _0; …; the tokens; what the others own; the further locals; the others]
           move ! (2 ∷ 0 ∷ 14 ∷ 15 ∷ []) $ group ! 4 $
@@ -256,7 +256,7 @@ module _ (S : Declared) (L : LL.Laws S) (pl : Plains (fields S)) where
           by ! (leaves ν lᵗ γ z (whole v h') (relates (r ν lᵗ γ z) h' v is is')))))))))))))
 
     -- ---- the same for a callee with a contract. The parameters after the record are ps; φ is what the lender promises, and φ' what the callee does
-    module _ {m : ℕ} (ps : List (Param m)) {M : Type 1} {𝓤 : Ura M} (𝓛 : Logic 𝓤) (𝓜 : Model 𝓤 𝓛.H) (𝓡 : Running 𝓤 𝓛.H 𝓜) (env' : REnv) (k : Name) (fn : Fn) (closed : Closed 𝓤 𝓛.H (tables 𝓤 𝓛.H 𝓜 𝓡 env').C (tables 𝓤 𝓛.H 𝓜 𝓡 env').Λ k fn) (j : Name) (f : Routine) (e : env' j ≡ f) where
+    module _ {m : ℕ} (ps : List (Param m)) {M : Type 1} {𝓤 : Ura M} (𝓛 : Logic 𝓤) (𝓜 : Model 𝓤 𝓛.H) (𝓡 : Running 𝓤 𝓛.H 𝓜) (env' : REnv) (k : Called) (fn : Fn) (closed : Closed 𝓤 𝓛.H (tables 𝓤 𝓛.H 𝓜 𝓡 env').C (tables 𝓤 𝓛.H 𝓜 𝓡 env').Λ k fn) (j : Called) (f : Routine) (e : env' j ≡ f) where
       open 𝓛 use {H}
 
       abbrev Callee : Ended

@@ -19,7 +19,7 @@ use denote.Laws.{Is, Ises, Are, Spells, Tells, Tellss, valss}
 use denote.Plain.{UInt, uint_vals, uint_Tells, Boolean, bool_vals, bool_Tells}
 use denote.RattleType.{RattleType, Denots, Valss, flat, owns}
 use denote.Signature.{Slot, plain, types_at}
-use denote.Slice.{MutSlice, ShrSlice, slice_ty, slice_val, shr_slice_vals}
+use denote.Slice.{MutSlice, ShrSlice, slice_ty, slice_val, shr_slice_vals, mut_slice_vals}
 use denote.Triple.End.{all, Fins, lasts_of}
 use Rattle.wraplaw.proofs.Args.{Arg, direct, lent, vals}
 
@@ -48,7 +48,7 @@ module _ {m : ℕ} where
   spell (number w) κs = uint_vals w
   spell flag κs = bool_vals
   spell (shared j ok) κs = shr_slice_vals
-  spell (mutable j ok) κs = shr_slice_vals
+  spell (mutable j ok) κs = mut_slice_vals
 
   tells : (p : Param m) (κs : Lfts m) → Tells ((slot p).row κs) (Is ((slot p).row κs)) (spell p κs)
   tells (number w) κs = uint_Tells w
@@ -99,7 +99,7 @@ module _ {m : ℕ} where
 -- ---- two types of the same values: what is owned, bound and said at exit is the same
 pub record Same (R R' : RattleType) : Type 1 where
   pub to : R.Denot → R'.Denot
-  pub owned : (z : R.Denot) (vs : List Val) → R.own z vs ≡ R'.own (to z) vs
+  pub owned : (z : R.Denot) (vs : List Val) → R.own_val z vs ≡ R'.own_val (to z) vs
   pub bound : (z : R.Denot) → Last (R'.exit yes) (to z) → Last (R.exit yes) z
   pub said : (z : R.Denot) (w : Last (R'.exit yes) (to z)) → left (R'.exit yes) (to z) w ≡ left (R.exit yes) z (bound z w)
 

@@ -1,0 +1,7 @@
+-- `frames_checkpoint::kind::flush_owed` meets its contract.
+use Rattle.frames.proofs.KindLaws.{owed_step}
+use Rattle.record.proofs.Held.{held}
+use Rattle.frames_checkpoint.proofs.kind.flush_owed.Goals as goal
+
+pub returns : goal.returns
+returns c = owed_step c.args.s (held c.args.s c.requires.0) c.requires.1

@@ -1,0 +1,52 @@
+-- `frames_load::load::load` meets its contract.
+use mathlib.Core.Path.{ap, sym, ◌∙◌}
+use native.Mathlib.Omega.{arith}
+use Rattle.frames.proofs.LoadLaws.{from_memory, from_card}
+use Rattle.frames.proofs.ReadyLaws.{ready}
+use Rattle.record.specs.Meaning.{state_of}
+use Rattle.recovery.specs.State.{read_frame}
+use Rattle.frames_load.proofs.load.load.Goals as goal
+
+pub short-requires : goal.short-requires
+short-requires c =
+    let r = ready c.args.s _ _ c.requires.0 in
+    omega (arith, c.requires.1, r.blocks_high)
+
+pub newest-r-requires : goal.newest-r-requires
+newest-r-requires c =
+    let r = ready c.args.s _ _ c.requires.0 in
+    rw c.short.ensures (r.together, (c.requires.1, r.frames_high))
+
+pub at-requires : goal.at-requires
+at-requires c =
+    let r = ready c.args.s _ _ c.requires.0 in
+    omega (arith, c.newest-r.ensures.in_memory c.if-r.true, r.memory_is)
+
+pub returns-then-r : goal.returns-then-r
+returns-then-r c =
+    let at-newest = c.newest-r in
+    let card = c.args.card.now in
+    let memory = c.args.memory.now in (
+      c.at.ensures.0
+          ∙ sym (from_memory at-newest.result card memory c.if-r.true)
+          ∙ at-newest.ensures.there card memory
+          ∙ ap (read_frame (state_of c.args.s memory) card) c.short.ensures,
+      c.at.ensures.1,
+    )
+
+pub at-requires-2 : goal.at-requires-2
+at-requires-2 c =
+    let r = ready c.args.s _ _ c.requires.0 in
+    omega (arith, c.newest-r.ensures.on_card c.if-r.false, r.card_is)
+
+pub returns : goal.returns
+returns c =
+    let at-newest = c.newest-r in
+    let card = c.args.card.now in
+    let memory = c.args.memory.now in (
+      c.at-2.ensures.0
+          ∙ sym (from_card at-newest.result card memory c.if-r.false)
+          ∙ at-newest.ensures.there card memory
+          ∙ ap (read_frame (state_of c.args.s memory) card) c.short.ensures,
+      c.at-2.ensures.1,
+    )

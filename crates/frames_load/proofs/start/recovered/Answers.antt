@@ -1,0 +1,9 @@
+-- `frames_load::start::recovered` meets its contract.
+use borrow.Author.Rules.{rules}
+use Rattle.frames.proofs.StartLaws.{started}
+use Rattle.record.proofs.NoneLaws.{none_is}
+use Rattle.frames_load.proofs.start.recovered.Goals as goal
+
+pub returns : goal.returns
+returns c =
+    started c.args.memory.now c.args.card.now c.args.c c.requires c.no_change-pending.result c.no_change-current.result (none_is _ c.no_change-pending.ensures) (none_is _ c.no_change-current.ensures)

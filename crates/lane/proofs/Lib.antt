@@ -1,2 +1,0 @@
--- The structs that the calls answer with, as the laws of wrappers take them.
-pub mod Answers

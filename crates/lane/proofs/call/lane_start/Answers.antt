@@ -1,0 +1,6 @@
+-- `lane::call::lane_start` meets its contract: what it replies is the by-value call's answer in numbers.
+use Rattle.linked.proofs.NumberLaws.{linked_start}
+use Rattle.lane.proofs.call.lane_start.Goals as goal
+
+pub returns : goal.returns
+returns c = linked_start _ _ _ _ c.start-d.ensures

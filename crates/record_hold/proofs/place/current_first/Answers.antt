@@ -1,0 +1,34 @@
+-- `record_hold::place::current_first` meets its contract.
+use Prim.Native.Nat.{ℕ}
+use mathlib.Core.Path.{refl, ap, ◌∙◌}
+use native.Mathlib.Omega.{arith}
+use Rattle.card.specs.Ring.{ring_at}
+use Rattle.record.proofs.Held.{held, bounds}
+use Rattle.record_hold.proofs.place.current_first.Goals as goal
+
+pub size-a-requires : goal.size-a-requires
+size-a-requires c =
+    let h = held c.args.s c.requires in
+    let b = bounds c.args.s h in
+    omega (arith, h.half_committed, b.area_high)
+
+pub size-b-requires : goal.size-b-requires
+size-b-requires c =
+    let h = held c.args.s c.requires in
+    let b = bounds c.args.s h in
+    omega (arith, h.half_pending, b.area_high)
+
+pub overflow_add-a : goal.overflow_add-a
+overflow_add-a c =
+    let h = held c.args.s c.requires in
+    let b = bounds c.args.s h in
+    omega (arith, c.size-a.ensures, c.size-b.ensures, h.room, b.area_high)
+
+pub at-requires : goal.at-requires
+at-requires c =
+    let h = held c.args.s c.requires in
+    let b = bounds c.args.s h in
+    rw (c.size-a.ensures, c.size-b.ensures) (b.area_high, (h.first_high, omega (arith, h.room)))
+
+pub returns : goal.returns
+returns c = c.at.ensures ∙ ap (λ (n : ℕ). ring_at c.args.s.geometry.area c.args.s.first n) (rw (c.size-a.ensures, c.size-b.ensures) refl)
