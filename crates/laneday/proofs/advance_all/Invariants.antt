@@ -2,4 +2,4 @@
 use Rattle.laneday.proofs.advance_all.Given as goal
 
 abbrev pub decreases-loop-turns : goal.decreases-loop-turns
-decreases-loop-turns l = l.turns
+decreases-loop-turns g l = l.turns

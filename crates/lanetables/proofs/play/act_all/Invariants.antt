@@ -3,4 +3,4 @@ use Rattle.std.proofs.Common.{◌-◌, length}
 use Rattle.lanetables.proofs.play.act_all.Given as goal
 
 abbrev pub decreases-loop-at : goal.decreases-loop-at
-decreases-loop-at l = length l.steps - l.at
+decreases-loop-at g l = length l.steps - l.at

@@ -1,0 +1,18 @@
+-- `pages_checkpoint::home::frame_at` meets its contract. The loop leaves the ranges from the i-th on to be searched.
+use Prim.Native.Nat.{◌+◌, ◌-◌, ◌≤◌}
+use mathlib.Core.List.{List}
+use mathlib.Core.Path.{◌≡◌, refl, ap, sym, ◌∙◌}
+use native.Mathlib.Omega.{arith}
+use Rattle.card.proofs.BytesLaws.{tab_start, tab_end}
+use Rattle.card.proofs.RangeLaws.{range_next}
+use Rattle.card.specs.Bytes.{tabulate}
+use Rattle.card.specs.Range.{Range, range_in, ranges_of}
+use Rattle.pages.proofs.NeededLaws.{list_here, list_later, list_none}
+use Rattle.pages.specs.Needed.{frame_at}
+use Rattle.pages_checkpoint.proofs.home.frame_at.Given as goal
+
+abbrev pub invariant-loop-i : goal.invariant-loop-i
+invariant-loop-i l = (l.i ≤ l.count) × ((l.start ≤ l.f) × (frame_at (tabulate (range_in l.numbers) l.i (l.count - l.i)) l.start l.f ≡ frame_at (ranges_of l.numbers l.count) (1 + l.area) l.f))
+
+abbrev pub decreases-loop-i : goal.decreases-loop-i
+decreases-loop-i l = l.count - l.i
