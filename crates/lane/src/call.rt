@@ -42,12 +42,7 @@ pub fn lane_start(s: &mut Store, card: &[u8], memory: &[u8]) -> u32
     d.answer
 }
 
-pub fn lane_key<'s, 'a>(
-    s: &'s mut Store,
-    card: &'a [u8],
-    memory: &'a [u8],
-    oid: u32,
-) -> Present
+pub fn lane_key<'s, 'a>(s: &'s mut Store, card: &'a [u8], memory: &'a [u8], oid: u32) -> Present
     ensures { Linked (call.on oid call.key) (lent s.old memory.now card.now) (present result.refusal result.count) (lent s.new memory.now card.now)
         × (s.new ≡ s.old) }
 {
@@ -84,13 +79,7 @@ pub fn lane_write(
     d.answer
 }
 
-pub fn lane_rescind(
-    s: &mut Store,
-    card: &[u8],
-    memory: &mut [u8],
-    oid: u32,
-    count: u32,
-) -> u32
+pub fn lane_rescind(s: &mut Store, card: &[u8], memory: &mut [u8], oid: u32, count: u32) -> u32
     ensures { Linked (call.on oid (call.rescind count)) (lent s.old memory.old card.now) (number result) (lent s.new memory.new card.now) }
 {
     let d = rescind::rescind(*s, card, memory, oid, count);

@@ -15,7 +15,6 @@ use Rattle.pages.proofs.EditLaws as edit
 use Rattle.pages.proofs.EditLaws.{pages_after, place_on, AsTable, SameRows, changes_long, CanAll, Made, edits_made}
 use Rattle.pages.specs.Book.{Book, present_to, header_reached, flushed_book, cut_book}
 use Rattle.pages.specs.Change.{Table, Edit, applied, at_place, edit_frames}
-use Rattle.pages.specs.Needed.{needed}
 use Rattle.pages.specs.Page.{flagged, page_of}
 use Rattle.pages.specs.Plain.{Row, row_of}
 use Rattle.recovery.proofs.FrameTheorem.{all_needed, accepted_stored, stored_geometry}

@@ -39,7 +39,7 @@ use Rattle.recovery.proofs.StepTail.{harmless_D, long_D, harmless_T, long_T}
 use Rattle.recovery.specs.Book.{FrameBook, marked_or, book_change, book_snapshot, book_start, book_wrote, kept_before, book_cut, WholeFrame, Needs, Brings}
 use Rattle.recovery.specs.Contents.{Contents, FrameBytes}
 use Rattle.recovery.specs.Questions.{room_asks, snapshot_asks, page_out_asks}
-use Rattle.recovery.specs.State.{State, directory_of, flushed, is_owed, is_flushed}
+use Rattle.recovery.specs.State.{State, directory_of, is_owed, is_flushed}
 use Rattle.recovery.specs.Step.{after_change, after_snapshot, Kind, page, directory, trailer, migration, header, flush, out_write, tail_bytes, trailer_block_no, next_migration, kind_write, kind_put, kind_drive, after_kind, advance_due, page_out_write, after_page_out, start_state, pass_to}
 use Rattle.recovery.specs.Write.{BlockWrite, put_down, Drive, put_all, seen, settled, written, Spoilt, Cut, HeaderIs, Reached, ReachedIs}
 

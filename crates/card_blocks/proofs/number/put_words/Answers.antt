@@ -16,8 +16,8 @@ loop-k-preserved c =
     record {
       in_range = omega arith;
       put =
-        c.put_u32.ensures ∙ ap (λ (s : List ℕ). put_u32 s (a.at + 4 * l.k) (get_or n l.k 0)) l.invariant.put
-        ∙ words_more a.s.now a.at l.k n (omega arith) (omega arith);
+          c.put_u32.ensures ∙ ap (λ (s : List ℕ). put_u32 s (a.at + 4 * l.k) (get_or n l.k 0)) l.invariant.put
+          ∙ words_more a.s.now a.at l.k n (omega arith) (omega arith);
     }
 
 pub returns : goal.returns

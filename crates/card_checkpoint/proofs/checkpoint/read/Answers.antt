@@ -22,7 +22,7 @@ returns-then-refusal-ne0 c =
     let whole = sym c.is_whole.ensures ∙ c.if-not-is_whole.false in
     let header = c.read-h.ensures ∙ ap header_on c.at.ensures.0 in
     refusal_is c.question-refusal.result (omega (arith, c.if-refusal-ne0.true)) c.refused-then-refusal-ne0.ensures
-        (refuse_header c.args.card.now c.read-h.result _ whole header c.question-refusal.ensures c.if-refusal-ne0.true)
+    (refuse_header c.args.card.now c.read-h.result _ whole header c.question-refusal.ensures c.if-refusal-ne0.true)
 
 pub committed-requires : goal.committed-requires
 committed-requires c =

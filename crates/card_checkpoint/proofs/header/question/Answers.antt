@@ -15,11 +15,17 @@ returns-then-not-fits c = simp (eq-eqb _ _ c.if-h-ne1.false, sym c.fits.ensures 
 pub returns-then-not-commit_fits : goal.returns-then-not-commit_fits
 unfolding first_no header_asks
 returns-then-not-commit_fits c =
-    simp (eq-eqb _ _ c.if-h-ne1.false, sym c.fits.ensures ∙ c.if-not-fits.false,
-        sym c.commit_fits.ensures ∙ c.if-not-commit_fits.true)
+    simp (
+      eq-eqb _ _ c.if-h-ne1.false,
+      sym c.fits.ensures ∙ c.if-not-fits.false,
+      sym c.commit_fits.ensures ∙ c.if-not-commit_fits.true,
+    )
 
 pub returns : goal.returns
 unfolding first_no header_asks
 returns c =
-    simp (eq-eqb _ _ c.if-h-ne1.false, sym c.fits.ensures ∙ c.if-not-fits.false,
-        sym c.commit_fits.ensures ∙ c.if-not-commit_fits.false)
+    simp (
+      eq-eqb _ _ c.if-h-ne1.false,
+      sym c.fits.ensures ∙ c.if-not-fits.false,
+      sym c.commit_fits.ensures ∙ c.if-not-commit_fits.false,
+    )

@@ -23,11 +23,21 @@ returns-then-t-lt1-2 c =
 pub returns-then-t : goal.returns-then-t
 unfolding trailer_fits
 returns-then-t c =
-    simp (eq-eqb _ _ c.if-t-h.false, le-leb _ _ c.if-t-lt1.false, le-leb _ _ c.if-h-t.false,
-        le-leb _ _ c.if-t-lt1-2.false, lt-leb _ _ c.if-t.true)
+    simp (
+      eq-eqb _ _ c.if-t-h.false,
+      le-leb _ _ c.if-t-lt1.false,
+      le-leb _ _ c.if-h-t.false,
+      le-leb _ _ c.if-t-lt1-2.false,
+      lt-leb _ _ c.if-t.true,
+    )
 
 pub returns : goal.returns
 unfolding trailer_fits
 returns c =
-    simp (eq-eqb _ _ c.if-t-h.false, le-leb _ _ c.if-t-lt1.false, le-leb _ _ c.if-h-t.false,
-        le-leb _ _ c.if-t-lt1-2.false, le-leb _ _ c.if-t.false) c.ends_at.ensures
+    simp (
+      eq-eqb _ _ c.if-t-h.false,
+      le-leb _ _ c.if-t-lt1.false,
+      le-leb _ _ c.if-h-t.false,
+      le-leb _ _ c.if-t-lt1-2.false,
+      le-leb _ _ c.if-t.false,
+    ) c.ends_at.ensures

@@ -1,5 +1,4 @@
 -- `frames_advance::advance::advance` meets its contract.
-use borrow.Author.Rules.{rules}
 use mathlib.Core.Path.{sym, subst}
 use Prim.Native.Nat.{ℕ}
 use Rattle.frames.proofs.DueLaws.{advance_flushed, due_owed}
@@ -20,7 +19,7 @@ returns-then-s-eq2 c =
     (advance_flushed c.args.s _ _ c.requires.0 _ (due_owed c.args.s _ c.if-s-eq2.true) c.flush_owed-t.ensures)
 
 pub work_due-requires : goal.work_due-requires
-work_due-requires c =  (c.requires.0, (c.requires.1.0, (c.requires.1.1.0, c.if-s-eq2.false)))
+work_due-requires c = (c.requires.0, (c.requires.1.0, (c.requires.1.1.0, c.if-s-eq2.false)))
 
 pub returns : goal.returns
 returns c = c.work_due.ensures

@@ -1,5 +1,4 @@
 -- `frames_advance::advance::commit_due` meets its contract.
-use borrow.Author.Rules.{rules}
 use native.Mathlib.Omega.{arith}
 use Rattle.frames.proofs.DueLaws.{due_page, advance_done, page_put, not_owed}
 use Rattle.frames.proofs.ReadyLaws.{ready}

@@ -1,5 +1,4 @@
 -- `frames_advance::advance::migration_due` meets its contract.
-use borrow.Author.Rules.{rules}
 use mathlib.Core.Bool.{false}
 use mathlib.Core.Path.{◌≡◌}
 use Rattle.frames.proofs.DueLaws.{advance_done, migration_put, not_owed, due_idle}

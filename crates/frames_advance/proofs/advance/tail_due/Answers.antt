@@ -1,5 +1,4 @@
 -- `frames_advance::advance::tail_due` meets its contract.
-use borrow.Author.Rules.{rules}
 use mathlib.Core.Bool.{false}
 use mathlib.Core.Path.{◌≡◌}
 use native.Mathlib.Omega.{arith}

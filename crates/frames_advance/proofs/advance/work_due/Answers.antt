@@ -1,5 +1,4 @@
 -- `frames_advance::advance::work_due` meets its contract.
-use borrow.Author.Rules.{rules}
 use lib.ListN.{length}
 use mathlib.Core.Bool.{true, false}
 use mathlib.Core.List.{List}

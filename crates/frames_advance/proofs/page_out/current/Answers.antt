@@ -1,5 +1,4 @@
 -- `frames_advance::page_out::current` meets its contract.
-use borrow.Author.Rules.{rules}
 use native.Mathlib.Omega.{arith}
 use Rattle.frames.proofs.OutLaws.{current_done}
 use Rattle.frames.proofs.ReadyLaws.{ready, firsts, current_short, area_block}

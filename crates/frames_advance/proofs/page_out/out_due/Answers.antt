@@ -1,5 +1,4 @@
 -- `frames_advance::page_out::out_due` meets its contract.
-use borrow.Author.Rules.{rules}
 use mathlib.Core.Bool.{false}
 use mathlib.Core.Path.{◌≡◌}
 use Rattle.frames.proofs.CallLaws.{page_out_none, page_out_pending, page_out_current}

@@ -1,5 +1,4 @@
 -- `frames_advance::page_out::page_out` meets its contract.
-use borrow.Author.Rules.{rules}
 use mathlib.Core.Path.{sym, ◌∙◌}
 use Rattle.frames.proofs.CallLaws.{page_out_common, page_out_owed}
 use Rattle.frames.specs.Promise.{reported}

@@ -1,5 +1,4 @@
 -- `frames_advance::page_out::pending` meets its contract.
-use borrow.Author.Rules.{rules}
 use native.Mathlib.Omega.{arith}
 use Rattle.frames.proofs.OutLaws.{pending_done}
 use Rattle.frames.proofs.ReadyLaws.{ready, firsts, pending_short, area_block}

@@ -1,5 +1,4 @@
 -- `frames_change::snapshot::snapshot` meets its contract.
-use borrow.Author.Rules.{rules}
 use mathlib.Core.Path.{sym, ◌∙◌}
 use native.Mathlib.Omega.{arith}
 use Rattle.frames.proofs.CallLaws.{snapshot_common, snapshot_16, snapshot_17, snapshot_18, snapshot_done}

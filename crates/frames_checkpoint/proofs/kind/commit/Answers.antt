@@ -1,5 +1,4 @@
 -- `frames_checkpoint::kind::commit` meets its contract.
-use borrow.Author.Rules.{rules}
 use native.Mathlib.Omega.{arith}
 use Rattle.frames.proofs.KindLaws.{commit_step}
 use Rattle.record.proofs.Held.{held}

@@ -1,6 +1,5 @@
 -- `frames_checkpoint::kind::directory_block` meets its contract.
 use Prim.Native.Nat.{◌<◌}
-use borrow.Author.Rules.{rules}
 use native.Mathlib.Omega.{arith}
 use Rattle.card.proofs.DirectoryLaws.{dir_block-length}
 use Rattle.frames.proofs.KindLaws.{kind_done, directory_fits, behind_fits, behind_inside, directory_write}

@@ -1,5 +1,4 @@
 -- `frames_checkpoint::kind::header_block` meets its contract.
-use borrow.Author.Rules.{rules}
 use native.Mathlib.Omega.{arith}
 use Rattle.card.proofs.HeaderLaws.{ranges_length, header_length}
 use Rattle.card.proofs.RangeLaws.{geometry_tells}

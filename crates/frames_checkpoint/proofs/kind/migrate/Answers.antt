@@ -1,6 +1,5 @@
 -- `frames_checkpoint::kind::migrate` meets its contract.
 use Prim.Native.Nat.{◌≤◌}
-use borrow.Author.Rules.{rules}
 use mathlib.Core.Path.{ap, ◌∙◌}
 use native.Mathlib.Omega.{arith}
 use Rattle.card.specs.Ring.{ring_at}

@@ -1,5 +1,4 @@
 -- `frames_checkpoint::kind::trailer_block` meets its contract.
-use borrow.Author.Rules.{rules}
 use native.Mathlib.Omega.{arith}
 use Rattle.card.proofs.TrailerLaws.{trailer_length}
 use Rattle.frames.proofs.KindLaws.{kind_done, behind_fits, behind_inside, trailer_write}

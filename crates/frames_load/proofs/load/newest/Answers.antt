@@ -1,5 +1,4 @@
 -- `frames_load::load::newest` meets its contract.
-use borrow.Author.Rules.{rules}
 use native.Mathlib.Omega.{arith}
 use Rattle.frames.proofs.LoadLaws.{at_turn, current_placed, under, index_in, ring_in, at_place_lem, turn_in}
 use Rattle.frames.specs.Parts.{pending_bytes}

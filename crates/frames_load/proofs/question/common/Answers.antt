@@ -1,5 +1,4 @@
 -- `frames_load::question::common` meets its contract.
-use borrow.Author.Rules.{rules}
 use mathlib.Core.Path.{refl, sym, ◌∙◌}
 use Rattle.card.proofs.QuestionLaws.{none_asked, asked_yes, asked_no}
 use Rattle.recovery.specs.Questions.{held_asks}

@@ -1,5 +1,4 @@
 -- `frames_load::question::is_said` meets its contract.
-use borrow.Author.Rules.{rules}
 use mathlib.Core.Path.{refl, sym, ◌∙◌}
 use Rattle.frames.proofs.ReadyLaws.{whole_said}
 use Rattle.frames_load.proofs.question.is_said.Goals as goal

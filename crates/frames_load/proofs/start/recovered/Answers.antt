@@ -1,5 +1,4 @@
 -- `frames_load::start::recovered` meets its contract.
-use borrow.Author.Rules.{rules}
 use Rattle.frames.proofs.StartLaws.{started}
 use Rattle.record.proofs.NoneLaws.{none_is}
 use Rattle.frames_load.proofs.start.recovered.Goals as goal

@@ -1,5 +1,4 @@
 -- `frames_load::start::start` meets its contract.
-use borrow.Author.Rules.{rules}
 use mathlib.Core.Path.{sym, ◌∙◌}
 use Rattle.frames.proofs.CallLaws.{start_1, start_refused, start_done}
 use Rattle.frames_load.proofs.start.start.Goals as goal

@@ -1,5 +1,4 @@
 -- `lane::number::advance` meets its contract.
-use borrow.Author.Rules.{rules}
 use Rattle.linked.proofs.NumberLaws.{linked_advance}
 use Rattle.lane.proofs.number.advance.Goals as goal
 

@@ -1,5 +1,4 @@
 -- `lane::number::forecast` meets its contract.
-use borrow.Author.Rules.{rules}
 use Rattle.linked.proofs.NumberLaws.{linked_forecast}
 use Rattle.lane.proofs.number.forecast.Goals as goal
 

@@ -1,5 +1,4 @@
 -- `lane::number::key` meets its contract.
-use borrow.Author.Rules.{rules}
 use Rattle.linked.proofs.NumberLaws.{linked_key}
 use Rattle.lane.proofs.number.key.Goals as goal
 

@@ -1,5 +1,4 @@
 -- `lane::number::page_out` meets its contract.
-use borrow.Author.Rules.{rules}
 use Rattle.linked.proofs.NumberLaws.{linked_page_out}
 use Rattle.lane.proofs.number.page_out.Goals as goal
 

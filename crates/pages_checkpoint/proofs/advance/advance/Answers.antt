@@ -1,5 +1,4 @@
 -- `pages_checkpoint::advance::advance` meets its contract.
-use borrow.Author.Rules.{rules}
 use mathlib.Core.Path.{sym, ◌∙◌}
 use Rattle.frames.proofs.ReadyLaws.{ready, readable}
 use Rattle.frames.specs.Promise.{lent, reported}

@@ -1,5 +1,4 @@
 -- `pages_checkpoint::forecast::forecast` meets its contract.
-use borrow.Author.Rules.{rules}
 use mathlib.Core.Path.{sym, ◌∙◌}
 use Rattle.frames.proofs.ReadyLaws.{ready, readable}
 use Rattle.pages.proofs.CallLaws.{forecast_refused, forecast-done}

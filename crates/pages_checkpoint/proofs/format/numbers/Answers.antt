@@ -1,9 +1,8 @@
 -- `pages_checkpoint::format::numbers` meets its contract. The loop has copied the first i numbers.
-use Prim.Native.Nat.{◌-◌, ◌≤◌}
-use lib.ListN.{length, get_or, length-set}
-use mathlib.Core.Path.{◌≡◌, refl}
+use lib.ListN.{get_or, length-set}
+use mathlib.Core.Path.{refl}
 use native.Mathlib.Omega.{arith}
-use Rattle.card.proofs.BytesLaws.{Filled, filled_more}
+use Rattle.card.proofs.BytesLaws.{filled_more}
 use Rattle.pages.proofs.FormatLaws.{ranges_copied}
 use Rattle.pages_checkpoint.proofs.format.numbers.Goals as goal
 

@@ -1,8 +1,7 @@
 -- `pages_checkpoint::format::put_pots` meets its contract. The loop has put the pots of the first i ranges; the next range starts at `at`.
-use Prim.Native.Nat.{◌+◌, ◌-◌, ◌≤◌}
 use native.Mathlib.Omega.{arith}
 use Rattle.card.proofs.RangeLaws.{geometry_tells}
-use Rattle.pages.proofs.PotsLaws.{PotsLeft, left_all, left_fits, left_next, left_none}
+use Rattle.pages.proofs.PotsLaws.{left_all, left_fits, left_next, left_none}
 use Rattle.pages_checkpoint.proofs.format.put_pots.Goals as goal
 
 pub overflow_add-at : goal.overflow_add-at

@@ -1,8 +1,6 @@
 -- `pages_checkpoint::format::put_pots` meets its contract. The loop has put the pots of the first i ranges; the next range starts at `at`.
 use Prim.Native.Nat.{◌+◌, ◌-◌, ◌≤◌}
-use native.Mathlib.Omega.{arith}
-use Rattle.card.proofs.RangeLaws.{geometry_tells}
-use Rattle.pages.proofs.PotsLaws.{PotsLeft, left_all, left_fits, left_next, left_none}
+use Rattle.pages.proofs.PotsLaws.{PotsLeft}
 use Rattle.pages_checkpoint.proofs.format.put_pots.Given as goal
 
 abbrev pub invariant-loop-i : goal.invariant-loop-i

@@ -1,6 +1,4 @@
 -- `pages_checkpoint::format::put_range` meets its contract. The loop has put the first i pots.
-use Prim.Native.Nat.{◌+◌, ◌-◌, ◌*◌, ◌≤◌}
-use lib.ListN.{length}
 use mathlib.Core.Path.{◌≡◌, refl, ◌∙◌}
 use native.Mathlib.Omega.{arith}
 use Rattle.card.specs.Bytes.{tabulate}

@@ -1,10 +1,8 @@
 -- `pages_checkpoint::format::put_range` meets its contract. The loop has put the first i pots.
 use Prim.Native.Nat.{◌+◌, ◌-◌, ◌*◌, ◌≤◌}
 use lib.ListN.{length}
-use mathlib.Core.Path.{◌≡◌, refl, ◌∙◌}
-use native.Mathlib.Omega.{arith}
+use mathlib.Core.Path.{◌≡◌}
 use Rattle.card.specs.Bytes.{tabulate}
-use Rattle.pages.proofs.PotsLaws.{pots_more}
 use Rattle.pages.specs.Page.{put_pots}
 use Rattle.pages_checkpoint.proofs.format.put_range.Given as goal
 

@@ -1,11 +1,10 @@
 -- `pages_checkpoint::home::frame_at` meets its contract. The loop leaves the ranges from the i-th on to be searched.
-use Prim.Native.Nat.{◌+◌, ◌-◌, ◌≤◌}
+use Prim.Native.Nat.{◌+◌}
 use mathlib.Core.List.{List}
-use mathlib.Core.Path.{◌≡◌, refl, ap, sym, ◌∙◌}
+use mathlib.Core.Path.{refl, ap, sym, ◌∙◌}
 use native.Mathlib.Omega.{arith}
 use Rattle.card.proofs.BytesLaws.{tab_start, tab_end}
 use Rattle.card.proofs.RangeLaws.{range_next}
-use Rattle.card.specs.Bytes.{tabulate}
 use Rattle.card.specs.Range.{Range, range_in, ranges_of}
 use Rattle.pages.proofs.NeededLaws.{list_here, list_later, list_none}
 use Rattle.pages.specs.Needed.{frame_at}

@@ -1,13 +1,8 @@
 -- `pages_checkpoint::home::frame_at` meets its contract. The loop leaves the ranges from the i-th on to be searched.
 use Prim.Native.Nat.{◌+◌, ◌-◌, ◌≤◌}
-use mathlib.Core.List.{List}
-use mathlib.Core.Path.{◌≡◌, refl, ap, sym, ◌∙◌}
-use native.Mathlib.Omega.{arith}
-use Rattle.card.proofs.BytesLaws.{tab_start, tab_end}
-use Rattle.card.proofs.RangeLaws.{range_next}
+use mathlib.Core.Path.{◌≡◌}
 use Rattle.card.specs.Bytes.{tabulate}
-use Rattle.card.specs.Range.{Range, range_in, ranges_of}
-use Rattle.pages.proofs.NeededLaws.{list_here, list_later, list_none}
+use Rattle.card.specs.Range.{range_in, ranges_of}
 use Rattle.pages.specs.Needed.{frame_at}
 use Rattle.pages_checkpoint.proofs.home.frame_at.Given as goal
 

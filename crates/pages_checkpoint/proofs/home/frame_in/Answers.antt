@@ -1,5 +1,4 @@
 -- `pages_checkpoint::home::frame_in` meets its contract.
-use borrow.Author.Rules.{rules}
 use mathlib.Core.Path.{sym}
 use Rattle.pages.proofs.NeededLaws.{in_pot, in_page}
 use Rattle.pages_checkpoint.proofs.home.frame_in.Goals as goal

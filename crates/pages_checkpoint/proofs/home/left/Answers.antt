@@ -1,8 +1,8 @@
 -- `pages_checkpoint::home::left` meets its contract. The loop leaves the entries from the i-th on to be counted.
-use Prim.Native.Nat.{◌-◌, ◌≤◌}
+use Prim.Native.Nat.{◌≤◌}
 use mathlib.Core.Path.{refl}
 use native.Mathlib.Omega.{arith}
-use Rattle.pages.proofs.HomeLaws.{own_parts, own_asked, frame_home, MovesFrom, moves_start, moves_over, moves_one, moves_end}
+use Rattle.pages.proofs.HomeLaws.{own_parts, own_asked, frame_home, moves_start, moves_over, moves_one, moves_end}
 use Rattle.pages.specs.Promise.{OverIs}
 use Rattle.record.proofs.Held.{held, bounds}
 use Rattle.pages_checkpoint.proofs.home.left.Goals as goal

@@ -1,5 +1,4 @@
 -- `pages_checkpoint::home::moves` meets its contract.
-use borrow.Author.Rules.{rules}
 use borrow.Author.Tests.{ltb-false}
 use mathlib.Core.Path.{sym, ◌∙◌}
 use native.Mathlib.Omega.{arith}

@@ -1,5 +1,4 @@
 -- `pages_checkpoint::page_out::page_out` meets its contract.
-use borrow.Author.Rules.{rules}
 use Rattle.pages.proofs.CallLaws.{page_out_kept}
 use Rattle.pages_checkpoint.proofs.page_out.page_out.Goals as goal
 

@@ -1,5 +1,4 @@
 -- `pages_checkpoint::snapshot::snapshot` meets its contract.
-use borrow.Author.Rules.{rules}
 use Rattle.pages.proofs.CallLaws.{snapshot_kept}
 use Rattle.pages_checkpoint.proofs.snapshot.snapshot.Goals as goal
 

@@ -1,5 +1,4 @@
 -- `pages_checkpoint::start::start` meets its contract.
-use borrow.Author.Rules.{rules}
 use Rattle.pages.proofs.CallLaws.{start_kept}
 use Rattle.pages_checkpoint.proofs.start.start.Goals as goal
 

@@ -1,6 +1,5 @@
 -- `pages_read::named::find` meets its contract.
 use Prim.Native.Nat.{ℕ, ◌<◌}
-use borrow.Author.Rules.{rules}
 use mathlib.Core.List.{[]}
 use mathlib.Core.Path.{◌≡◌, refl, ap, sym, ◌∙◌}
 use native.Mathlib.Omega.{arith}
@@ -19,14 +18,17 @@ use Rattle.pages_read.proofs.named.find.Goals as goal
 module _ (g : Geometry) (oid : ℕ) (r : Named) where
   asked : {a : Lookup} → place_in g oid ≡ a → first_no (placed (place_in g oid) (λ p. [])) ≡ first_no (placed a (λ p. []))
   asked e = ap (λ (b : Lookup). first_no (placed b (λ p. []))) e
+
   located : r.refusal ≡ 0 → place_in g oid ≡ Located r.address → NamedIs g oid r
   located z e = record {
     refusal_is = z ∙ sym (asked e ∙ placed_located r.address (λ p. []) ∙ none_asked);
     place_is = λ _. e;
     entry_high = (lies (ranges_of g.ranges g.count) _ oid r.address e).entry_high;
   }
+
   gap : r.refusal ≡ 21 → place_in g oid ≡ Gap → r.address.entry < 102 → NamedIs g oid r
   gap n e high = record { refusal_is = n ∙ sym (asked e ∙ placed_gap (λ p. [])); place_is = λ z. absurd (omega (arith, n, z)); entry_high = high }
+
   outside : r.refusal ≡ 9 → place_in g oid ≡ Outside → r.address.entry < 102 → NamedIs g oid r
   outside n e high = record { refusal_is = n ∙ sym (asked e ∙ placed_outside (λ p. [])); place_is = λ z. absurd (omega (arith, n, z)); entry_high = high }
 

@@ -1,5 +1,4 @@
 -- `pages_read::named::is_zero` meets its contract.
-use borrow.Author.Rules.{rules}
 use mathlib.Core.Path.{ap, ◌∙◌}
 use Rattle.card.specs.Pot.{is_zero}
 use Rattle.pages_read.proofs.named.is_zero.Goals as goal

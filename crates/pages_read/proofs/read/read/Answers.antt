@@ -22,7 +22,7 @@ found c = record { passed = sym c.common-common.ensures ∙ c.if-common-ne0.fals
 -- and 10 and 11
 keyed : (c : Else-no-ne0)
     → Keyed (lent c.args.s c.args.memory.now c.args.card.now) c.args.oid c.args.count c.find-n.result.address c.load-pot.result.now
-        (eqb (length c.args.buffer.now) 512)
+    (eqb (length c.args.buffer.now) 512)
 keyed c =
     key_passes _ _ _ _ (record { passed = sym c.common-common.ensures ∙ c.if-common-ne0.false; place_is = c.find-n.ensures.place_is c.if-n-ne0.false })
     _ c.load-pot.ensures.0 10 _ c.check-no.ensures c.if-no-ne0.false

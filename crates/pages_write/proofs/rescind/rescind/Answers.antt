@@ -25,7 +25,7 @@ found c = record { passed = sym c.common-common.ensures ∙ c.if-common-ne0.fals
 -- and 10 and 15
 keyed : (c : Else-no-ne0)
     → Keyed (lent c.args.s c.args.memory.now c.args.card.now) c.args.oid c.args.count c.find-n.result.address c.load-found.result.now
-        (ltb c.args.count 4294967295)
+    (ltb c.args.count 4294967295)
 keyed c =
     key_passes _ _ _ _ (record { passed = sym c.common-common.ensures ∙ c.if-common-ne0.false; place_is = c.find-n.ensures.place_is c.if-n-ne0.false })
     _ c.load-found.ensures.0 14 _ c.check-no.ensures c.if-no-ne0.false

@@ -1,5 +1,4 @@
 -- `pages_write::write::clear` meets its contract.
-use borrow.Author.Rules.{rules}
 use Rattle.pages_write.proofs.write.clear.Goals as goal
 
 pub returns : goal.returns

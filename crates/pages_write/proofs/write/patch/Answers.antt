@@ -1,6 +1,4 @@
 -- `pages_write::write::patch` meets its contract.
-use lib.ListN.{length}
-use mathlib.Core.Path.{◌≡◌}
 use native.Mathlib.Omega.{arith}
 use Rattle.card.proofs.BytesLaws.{lent-part}
 use Rattle.pages_write.proofs.write.patch.Goals as goal

@@ -1,7 +1,7 @@
 -- `pages_write::write::write` meets its contract.
 use Prim.Native.Nat.{ℕ, ◌+◌, ◌≤◌}
 use borrow.Author.Rules.{rules}
-use borrow.Author.Tests.{eqb-true, eqb-false, leb-true}
+use borrow.Author.Tests.{leb-true}
 use lib.Dec.{leb}
 use lib.ListN.{length}
 use mathlib.Core.Bool.{Bool}
@@ -15,7 +15,6 @@ use Rattle.card.specs.Question.{first_no}
 use Rattle.frames.specs.Promise.{lent, common}
 use Rattle.pages.proofs.CallLaws.{write_refused, write_nothing, write_page, write_both}
 use Rattle.pages.proofs.NamedLaws.{searchable, Found, page_readable, pot_readable, page_whole, small, page_changing, both_changing, page_full, page_empty, common_stops, place_stops, key_asks, Keyed, key_stops, key_passes}
-use Rattle.pages.specs.Promise.{present_frames}
 use Rattle.pages_write.proofs.write.write.Goals as goal
 use Rattle.pages_write.proofs.write.write.Goals.{After-check-no, After-clear, After-patch, Else-common-ne0, Else-n-ne0, then-no-ne0-via-then-no-ne0, then-no-ne0-via-else-no-ne0+then-new-eq0}
 
@@ -36,7 +35,7 @@ asked c = c.check-no.ensures ∙ ap (number_by c) c.fits.ensures
 
 keyed : (c : After-check-no) → c.check-no.result ≡ 0
     → Keyed (lent c.args.s c.args.memory.now c.args.card.now) c.args.oid c.args.count c.find-n.result.address c.load-pot.result.now
-        (leb (c.args.at + length c.args.new.now) 512)
+    (leb (c.args.at + length c.args.new.now) 512)
 keyed c z =
     key_passes _ _ _ _ (record { passed = sym c.common-common.ensures ∙ c.if-common-ne0.false; place_is = c.find-n.ensures.place_is c.if-n-ne0.false })
     _ c.load-pot.ensures.0 10 _ (asked c) z
@@ -72,10 +71,11 @@ returns-then-no-ne0 c =
     let f = found (goal.at.returns-then-no-ne0 c).Else-n-ne0 in
     let at_check = (goal.at.returns-then-no-ne0 c).After-check-no in
     elim c.then-no-ne0.branch [
-    | then-no-ne0-via-then-no-ne0 w ↦ write_refused _ _ _ _ _ (key_stops _ _ _ _ f _ c.load-pot.ensures.0 10 _ (asked at_check) _ w.if-no-ne0.true)
-        c.unchanged-then-no-ne0.ensures
-    | then-no-ne0-via-else-no-ne0+then-new-eq0 w ↦ write_nothing _ _ _ _ _ _ _ (keyed at_check w.if-no-ne0.false) w.if-new-eq0.true w.if-no-ne0.false
-        c.unchanged-then-no-ne0.ensures ]
+      | then-no-ne0-via-then-no-ne0 w ↦ write_refused _ _ _ _ _ (key_stops _ _ _ _ f _ c.load-pot.ensures.0 10 _ (asked at_check) _ w.if-no-ne0.true)
+          c.unchanged-then-no-ne0.ensures
+      | then-no-ne0-via-else-no-ne0+then-new-eq0 w ↦ write_nothing _ _ _ _ _ _ _ (keyed at_check w.if-no-ne0.false) w.if-new-eq0.true w.if-no-ne0.false
+          c.unchanged-then-no-ne0.ensures
+    ]
 
 pub lay-requires : goal.lay-requires
 lay-requires c = (search rules, fits (goal.at.lay-requires c).After-check-no c.if-no-ne0.false)

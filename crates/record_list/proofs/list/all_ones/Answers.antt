@@ -14,8 +14,8 @@ loop-k-preserved c =
     let to = c.args.to in
     let l = c.loop-k in
     elim c.if-count-k-ne1.branch [
-      then-count-k-ne1 w ↦ each_no _ l.k to l.yes l.invariant (omega arith) (ne_eqb _ _ w.if-count-k-ne1.true) w.yes-is
-    | else-count-k-ne1 w ↦ each_yes _ l.k to l.yes l.invariant (omega arith) (eq-eqb _ _ w.if-count-k-ne1.false) w.yes-is
+      | then-count-k-ne1 w ↦ each_no _ l.k to l.yes l.invariant (omega arith) (ne_eqb _ _ w.if-count-k-ne1.true) w.yes-is
+      | else-count-k-ne1 w ↦ each_yes _ l.k to l.yes l.invariant (omega arith) (eq-eqb _ _ w.if-count-k-ne1.false) w.yes-is
     ]
 
 pub returns : goal.returns

@@ -14,8 +14,8 @@ loop-i-preserved c =
     let n = c.args.n in
     let l = c.loop-i in
     elim c.if-high-l.branch [
-      then-high-l w ↦ each_no _ l.i n l.yes l.invariant (omega arith) (le-ltb _ _ w.if-high-l.true) w.yes-is
-    | else-high-l w ↦ each_yes _ l.i n l.yes l.invariant (omega arith) (lt-ltb _ _ w.if-high-l.false) w.yes-is
+      | then-high-l w ↦ each_no _ l.i n l.yes l.invariant (omega arith) (le-ltb _ _ w.if-high-l.true) w.yes-is
+      | else-high-l w ↦ each_yes _ l.i n l.yes l.invariant (omega arith) (lt-ltb _ _ w.if-high-l.false) w.yes-is
     ]
 
 pub returns : goal.returns

@@ -14,8 +14,8 @@ loop-i-preserved c =
     let l = c.loop-i in (
       omega arith,
       elim c.if-l-i.branch [
-        then-l-i w ↦ rw w.k-is (below_more a.l.now a.n a.x l.k l.i c.requires.1 (omega arith) l.invariant.1 w.if-l-i.true)
-      | else-l-i w ↦ rw w.k-is (below_rest a.l.now a.n a.x l.k l.i c.requires.1 (omega arith) l.invariant.1 w.if-l-i.false)
+        | then-l-i w ↦ rw w.k-is (below_more a.l.now a.n a.x l.k l.i c.requires.1 (omega arith) l.invariant.1 w.if-l-i.true)
+        | else-l-i w ↦ rw w.k-is (below_rest a.l.now a.n a.x l.k l.i c.requires.1 (omega arith) l.invariant.1 w.if-l-i.false)
       ],
     )
 

@@ -15,8 +15,8 @@ loop-i-preserved c =
     let l = c.loop-i in (
       omega arith,
       elim c.if-l-i.branch [
-        then-l-i w ↦ each_no _ l.i n l.all l.invariant.1 (omega arith) (le-ltb _ _ w.if-l-i.true) w.all-is
-      | else-l-i w ↦ each_yes _ l.i n l.all l.invariant.1 (omega arith) (lt-ltb _ _ w.if-l-i.false) w.all-is
+        | then-l-i w ↦ each_no _ l.i n l.all l.invariant.1 (omega arith) (le-ltb _ _ w.if-l-i.true) w.all-is
+        | else-l-i w ↦ each_yes _ l.i n l.all l.invariant.1 (omega arith) (lt-ltb _ _ w.if-l-i.false) w.all-is
       ],
     )
 

@@ -11,7 +11,7 @@ abbrev pub invariant-loop-i : goal.invariant-loop-i
 invariant-loop-i l =
     (1 ≤ l.i)
     × (l.all && each (λ k. ltb (get_or l.l (k - 1) 0) (get_or l.l k 0)) l.i (l.n - l.i)
-        ≡ each (λ k. ltb (get_or l.l (k - 1) 0) (get_or l.l k 0)) 1 (l.n - 1))
+    ≡ each (λ k. ltb (get_or l.l (k - 1) 0) (get_or l.l k 0)) 1 (l.n - 1))
 
 abbrev pub decreases-loop-i : goal.decreases-loop-i
 decreases-loop-i l = l.n - l.i
