@@ -1,6 +1,6 @@
 /*
  * The lane page store for C: ten calls over a card, lent memory and one record.
- * Link target/staticlib/liblane.a (x86-64 Linux), made by `rt staticlib lane`.
+ * Link target/staticlib/liblane.a (x86-64 Linux), made by `c/library`.
  *
  * Who keeps the card in a file or on a block device has lane_file.h, which does all that follows. This
  * is for who has no file system.

@@ -1,5 +1,5 @@
 //! Links the proved library, from the folder that LANE_LIB_DIR names by its whole path, else from
-//! where `rt staticlib lane` puts it.
+//! where `c/library` puts it.
 
 use std::env;
 use std::path::PathBuf;
@@ -23,7 +23,7 @@ fn main() {
     println!("cargo::rerun-if-changed={}", library.display());
     if !library.is_file() {
         println!(
-            "cargo::error={} is missing: run `rt staticlib lane`, or name its folder in LANE_LIB_DIR",
+            "cargo::error={} is missing: run `c/library`, or name its folder in LANE_LIB_DIR",
             library.display()
         );
         return;

@@ -106,9 +106,10 @@ pub fn lane_page_out(s: &mut Store, card: &mut [u8], memory: &[u8]) -> Report
 pub fn lane_advance(s: &mut Store, card: &mut [u8], memory: &[u8]) -> Report
     ensures { Linked call.advance (lent s.old memory.now card.old) (report result.kind result.refusal result.block) (lent s.new memory.now card.new) }
 {
-    let d = number::advance(*s, card, memory);
+    let d = advance::advance(*s, card, memory);
     *s = d.store;
-    d.answer
+    let a = d.answer;
+    number::report(a)
 }
 
 pub fn lane_forecast(s: &mut Store, card: &[u8], memory: &[u8]) -> Foretold

@@ -43,7 +43,7 @@ fn foretold(f: Forecast) -> Foretold
     }
 }
 
-fn report(a: Advance) -> Report
+pub fn report(a: Advance) -> Report
     ensures { result ≡ report_of a }
 {
     match a {

@@ -48,7 +48,7 @@
 //! Without its default feature `file` the crate needs neither `std` nor an allocator: a [`Store`]
 //! holds its record in place, of [`Store::RECORD`] bytes. The build takes `liblane.a` from the folder
 //! that the environment variable LANE_LIB_DIR names by its whole path, else from `target/staticlib`,
-//! where `rt staticlib lane` puts it.
+//! where `c/library` puts it.
 
 #![cfg_attr(not(feature = "file"), no_std)]
 #![deny(missing_docs)]
