@@ -21,8 +21,8 @@ use Rattle.pages.proofs.Demand3.{demand_3, demand_3_spoilt}
 use Rattle.pages.proofs.ForecastHolds.{forecast_holds}
 use Rattle.pages.specs.Book.{Event, is_done, is_header, is_flush}
 use Rattle.pages.specs.Call.{key, read, write, rescind, Call, start, on, snapshot, page_out, advance, forecast, Answer, refused, done, counted, filled, wrote, foretold}
-use Rattle.pages.specs.Demand2 as byValue2
-use Rattle.pages.specs.Demand3 as byValue
+use Rattle.pages.specs.Demand2 as by_value_2
+use Rattle.pages.specs.Demand3 as by_value
 use Rattle.pages.specs.Demand3.{World, Run}
 use Rattle.pages.specs.ForecastHolds.{MayStand, Undisturbed, of_advance, advances, Foreseen}
 use Rattle.pages.specs.Promise.{asks, done_answer, refusal, answered, Kept}
@@ -67,9 +67,9 @@ abbrev answers : (cs : List Call) (rs : List Reply) (l l' : Lent) → LinkedCall
 answers _ _ _ _ (finished l) = []
 answers _ _ _ _ (next c cs r rs l l₁ l₂ k ks) = k.answer ∷ answers cs rs l₁ l₂ ks
 
-promised : (cs : List Call) (rs : List Reply) (l l' : Lent) (ks : LinkedCalls cs l rs l') → byValue2.Calls cs l (answers cs rs l l' ks) l'
-promised _ _ _ _ (finished l) = byValue2.finished l
-promised _ _ _ _ (next c cs r rs l l₁ l₂ k ks) = byValue2.next c cs _ _ l l₁ l₂ k.kept (promised cs rs l₁ l₂ ks)
+promised : (cs : List Call) (rs : List Reply) (l l' : Lent) (ks : LinkedCalls cs l rs l') → by_value_2.Calls cs l (answers cs rs l l' ks) l'
+promised _ _ _ _ (finished l) = by_value_2.finished l
+promised _ _ _ _ (next c cs r rs l l₁ l₂ k ks) = by_value_2.next c cs _ _ l l₁ l₂ k.kept (promised cs rs l₁ l₂ ks)
 
 replied : (cs : List Call) (rs : List Reply) (l l' : Lent) (ks : LinkedCalls cs l rs l') → rs ≡ replies cs (answers cs rs l l' ks)
 unfolding replies
@@ -85,12 +85,12 @@ linked_demand_2 m card l₀ k cs later rs l ks =
 -- ---- demand 3
 
 run : (A : Adversary) (es : List Event) (u w : World) → LinkedRun A es u w → Run A es u w
-run A _ _ _ (ended w) = byValue.ended w
-run A _ _ _ (calls c r es u w l l' e k ks) = byValue.then _ es u _ w (byValue.calls c k.answer u l l' e k.kept) (run A es _ w ks)
-run A _ _ _ (cuts e es u v w is s ks) = byValue.then e es u v w s (run A es v w ks)
+run A _ _ _ (ended w) = by_value.ended w
+run A _ _ _ (calls c r es u w l l' e k ks) = by_value.then _ es u _ w (by_value.calls c k.answer u l l' e k.kept) (run A es _ w ks)
+run A _ _ _ (cuts e es u v w is s ks) = by_value.then e es u v w s (run A es v w ks)
 
 -- of any drive of which the by-value calls recover
-linked_recovers : (A : Adversary) → byValue.Recovers A → LinkedRecovers A
+linked_recovers : (A : Adversary) → by_value.Recovers A → LinkedRecovers A
 unfolding numbered answered reply_of page_reply number_of count_of bytes_of
 linked_recovers A recovers area numbers before card f v e es w ks m long n l k =
     let d = recovers area numbers before card f v e es w (run A es _ w ks) m long k.answer l k.kept in (

@@ -1,5 +1,5 @@
 -- `card_blocks::number::put_words` meets its contract. The loop has put the first k numbers.
-use Rattle.std.proofs.Common.{◌≡◌, ℕ, ◌+◌, ◌*◌, List, get_or, ap, sym, ◌∙◌, arith}
+use Rattle.std.proofs.Common.{ℕ, ◌+◌, ◌*◌, List, get_or, ap, sym, ◌∙◌, arith}
 use Rattle.card.proofs.BytesLaws.{patch_none, words_more}
 use Rattle.card.specs.Bytes.{put_u32, words}
 use Rattle.card_blocks.proofs.number.put_words.Goals as goal
@@ -19,8 +19,3 @@ loop-k-preserved c =
           c.put_u32.ensures ∙ ap (λ (s : List ℕ). put_u32 s (a.at + 4 * l.k) (get_or n l.k 0)) l.invariant.put
           ∙ words_more a.s.now a.at l.k n (omega arith) (omega arith);
     }
-
-pub returns : goal.returns
-returns c =
-    let e : c.loop-k.k ≡ c.args.n = omega arith in
-    rw e at c.loop-k.invariant.put

@@ -24,20 +24,14 @@ returns-then-refusal-ne0 c =
     refusal_is c.question-refusal.result (omega (arith, c.if-refusal-ne0.true)) c.refused-then-refusal-ne0.ensures
     (refuse_header c.args.card.now c.read-h.result _ whole header c.question-refusal.ensures c.if-refusal-ne0.true)
 
-pub committed-requires : goal.committed-requires
-committed-requires c =
-    let whole = sym c.is_whole.ensures ∙ c.if-not-is_whole.false in
-    let header = c.read-h.ensures ∙ ap header_on c.at.ensures.0 in
-    let passed = sym c.question-refusal.ensures ∙ c.if-refusal-ne0.false in
-    (record { card_whole = whole; header_is = header; passed = passed }, omega (arith, c.if-h-ne0.true))
-
 pub returns : goal.returns
 unfolding entries_of tabulate
 returns c =
     let whole = sym c.is_whole.ensures ∙ c.if-not-is_whole.false in
     let header = c.read-h.ensures ∙ ap header_on c.at.ensures.0 in
     let passed = sym c.question-refusal.ensures ∙ c.if-refusal-ne0.false in
-    let ok : HeaderPassed c.args.card.now c.read-h.result = record { card_whole = whole; header_is = header; passed = passed } in
+    let ok : HeaderPassed c.args.card.now c.read-h.result =
+    record { card_whole = whole; header_is = header; passed = passed } in
     record {
       number = sym (uncommitted_asked ok c.if-h-ne0.false);
       header_is = λ z. ok.header_is;

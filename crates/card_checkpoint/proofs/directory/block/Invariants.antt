@@ -7,7 +7,11 @@ use Rattle.card.specs.Bytes.{patch, zeros}
 use Rattle.card_checkpoint.proofs.directory.block.Given as goal
 
 abbrev pub invariant-loop-k : goal.invariant-loop-k
-invariant-loop-k l = (l.k ≤ l.n) × ((l.bytes ≡ patch zeros 0 (front_bytes l.area l.first l.frames l.places l.from l.k)) × (length l.bytes ≡ 512))
+invariant-loop-k l = record {
+  in_range : l.k ≤ l.n;
+  put : l.bytes ≡ patch zeros 0 (front_bytes l.area l.first l.frames l.places l.from l.k);
+  size : length l.bytes ≡ 512;
+}
 
 abbrev pub decreases-loop-k : goal.decreases-loop-k
 decreases-loop-k l = l.n - l.k

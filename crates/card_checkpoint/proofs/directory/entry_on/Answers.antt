@@ -6,8 +6,10 @@ use Rattle.card.specs.Directory.{read_entry, entry_on}
 use Rattle.card_checkpoint.proofs.directory.entry_on.Goals as goal
 
 pub at-bytes-requires : goal.at-bytes-requires
-unfolding entry_on read_entry
-at-bytes-requires c = omega (arith, c.at.ensures, ring_high c.args.area c.args.first (c.args.p + c.args.i / 64) c.requires.1.1.0 c.requires.1.1.1)
+at-bytes-requires c =
+    let a = c.args in
+    let high = ring_high a.area a.first (a.p + a.i / 64) c.requires.1.1.0 c.requires.1.1.1 in
+    omega (arith, c.at.ensures, high)
 
 pub returns : goal.returns
 unfolding entry_on read_entry

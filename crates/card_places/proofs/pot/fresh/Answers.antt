@@ -12,17 +12,21 @@ use Rattle.card_places.proofs.pot.fresh.Goals as goal
 
 pub loop-i-init : goal.loop-i-init
 unfolding fresh_entries
-loop-i-init c = (omega arith, (c.empty-pot.ensures ∙ sym (patch_none zeros 0), ap length c.empty-pot.ensures ∙ zeros-length))
+loop-i-init c =
+    let e = c.empty-pot.ensures in
+    record { in_range = omega arith; put = e ∙ sym (patch_none zeros 0); size = ap length e ∙ zeros-length }
 
 pub loop-i-preserved : goal.loop-i-preserved
 loop-i-preserved c =
     let l = c.loop-i in
     let p = c.put_flags in
-    let e = p.ensures ∙ ap (λ (s : List ℕ). put_flags s l.i 1) l.invariant.1.0 ∙ fresh_more l.i (omega arith) in
-    (omega arith, (e, omega (arith, p.auto.pot)))
+    record {
+      in_range = omega arith;
+      put = p.ensures ∙ ap (λ (s : List ℕ). put_flags s l.i 1) l.invariant.put ∙ fresh_more l.i (omega arith);
+      size = omega (arith, p.auto.pot);
+    }
 
 pub returns : goal.returns
 returns c =
-    let l = c.loop-i in
-    let e : l.i ≡ 102 = omega arith in
-    rw e at l.invariant.1.0 ∙ fresh_all
+    let e : c.loop-i.i ≡ 102 = omega arith in
+    rw e at c.loop-i.invariant.put ∙ fresh_all

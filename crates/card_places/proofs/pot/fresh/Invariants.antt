@@ -7,7 +7,11 @@ use Rattle.card.specs.Pot.{fresh_entries}
 use Rattle.card_places.proofs.pot.fresh.Given as goal
 
 abbrev pub invariant-loop-i : goal.invariant-loop-i
-invariant-loop-i l = (l.i ≤ 102) × ((l.pot ≡ patch zeros 0 (fresh_entries l.i)) × (length l.pot ≡ 512))
+invariant-loop-i l = record {
+  in_range : l.i ≤ 102;
+  put : l.pot ≡ patch zeros 0 (fresh_entries l.i);
+  size : length l.pot ≡ 512;
+}
 
 abbrev pub decreases-loop-i : goal.decreases-loop-i
 decreases-loop-i l = 102 - l.i

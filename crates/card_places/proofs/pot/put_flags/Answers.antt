@@ -7,4 +7,6 @@ use Rattle.card_places.proofs.pot.put_flags.Goals as goal
 
 pub returns : goal.returns
 unfolding put_flags
-returns c = rw c.entry_at-at.ensures (store1 c.args.pot.now (entry_at c.args.i + 4) c.args.flags (omega (arith, c.requires)))
+returns c =
+    let a = c.args in
+    rw c.entry_at-at.ensures (store1 a.pot.now (entry_at a.i + 4) a.flags (omega (arith, c.requires)))

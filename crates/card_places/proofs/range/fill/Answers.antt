@@ -8,32 +8,34 @@ use Rattle.card_places.proofs.range.fill.Goals as goal
 
 pub loop-i-init : goal.loop-i-init
 unfolding ranges_of
-loop-i-init c = (omega arith, (omega arith, ap (ranges_fill 0 c.args.start c.args.card) (tab_start (range_in c.args.numbers.now) c.args.count)))
+loop-i-init c =
+    let a = c.args in
+    let start = tab_start (range_in a.numbers.now) a.count in
+    record { in_range = omega arith; near = omega arith; rest = ap (ranges_fill 0 a.start a.card) start }
 
 pub returns-then-not-keeps : goal.returns-then-not-keeps
 returns-then-not-keeps c =
-    let at-loop = c.loop-i in
     let a = c.args in
-    let l = at-loop in
-    sym (fill_stops l.low l.at a.card _ _ _ (range_next a.numbers.now l.i a.count _ _ (omega arith) c.wide-oid.ensures.0 c.wide-pages.ensures.0) (sym c.keeps.ensures ∙ c.if-not-keeps.true))
-    ∙ l.invariant.1.1
+    let l = c.loop-i in
+    let next = range_next a.numbers.now l.i a.count _ _ (omega arith) c.wide-oid.ensures.0 c.wide-pages.ensures.0 in
+    let no = sym c.keeps.ensures ∙ c.if-not-keeps.true in
+    sym (fill_stops l.low l.at a.card _ _ _ next no) ∙ l.invariant.rest
 
 pub loop-i-preserved : goal.loop-i-preserved
 loop-i-preserved c =
-    let at-loop = c.loop-i in
     let a = c.args in
-    let l = at-loop in (
-      omega arith,
-      (
-        omega (arith, c.blocks-at.ensures),
-        rw c.blocks-at.ensures
-            (sym (fill_more l.low l.at a.card _ _ _ (range_next a.numbers.now l.i a.count _ _ (omega arith) c.wide-oid.ensures.0 c.wide-pages.ensures.0) (sym c.keeps.ensures ∙ c.if-not-keeps.false)))
-            ∙ l.invariant.1.1,
-      ),
-    )
+    let l = c.loop-i in
+    let next = range_next a.numbers.now l.i a.count _ _ (omega arith) c.wide-oid.ensures.0 c.wide-pages.ensures.0 in
+    let yes = sym c.keeps.ensures ∙ c.if-not-keeps.false in
+    record {
+      in_range = omega arith;
+      near = omega (arith, c.blocks-at.ensures);
+      rest = rw c.blocks-at.ensures (sym (fill_more l.low l.at a.card _ _ _ next yes)) ∙ l.invariant.rest;
+    }
 
 pub returns : goal.returns
 returns c =
     let a = c.args in
     let l = c.loop-i in
-    sym (fill_end l.low l.at a.card _ (tab_end (range_in a.numbers.now) l.i a.count (omega arith))) ∙ l.invariant.1.1
+    let end = tab_end (range_in a.numbers.now) l.i a.count (omega arith) in
+    sym (fill_end l.low l.at a.card _ end) ∙ l.invariant.rest

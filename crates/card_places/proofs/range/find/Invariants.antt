@@ -6,8 +6,14 @@ use Rattle.card.specs.Range.{range_in, ranges_of, missing, locate_or, locate}
 use Rattle.card_places.proofs.range.find.Given as goal
 
 abbrev pub invariant-loop-i : goal.invariant-loop-i
-invariant-loop-i l = (l.i ≤ l.count)
-    × ((l.start ≤ 513 + 8589934592 * l.i) × (locate_or (missing (ranges_of l.numbers l.count) l.oid) (tabulate (range_in l.numbers) l.i (l.count - l.i)) l.start l.oid ≡ locate (ranges_of l.numbers l.count) (1 + l.area) l.oid))
+invariant-loop-i l =
+    let all = ranges_of l.numbers l.count in
+    let left = tabulate (range_in l.numbers) l.i (l.count - l.i) in
+    record {
+      in_range : l.i ≤ l.count;
+      near : l.start ≤ 513 + 8589934592 * l.i;
+      rest : locate_or (missing all l.oid) left l.start l.oid ≡ locate all (1 + l.area) l.oid;
+    }
 
 abbrev pub decreases-loop-i : goal.decreases-loop-i
 decreases-loop-i l = l.count - l.i

@@ -10,4 +10,7 @@ pub returns-then-not-some_above : goal.returns-then-not-some_above
 returns-then-not-some_above c = sym (missing_above _ _ (sym c.some_above.ensures ∙ c.if-not-some_above.true))
 
 pub returns : goal.returns
-returns c = sym (missing_gap _ _ (sym c.some_below.ensures ∙ c.if-not-some_below.false) (sym c.some_above.ensures ∙ c.if-not-some_above.false))
+returns c =
+    let below = sym c.some_below.ensures ∙ c.if-not-some_below.false in
+    let above = sym c.some_above.ensures ∙ c.if-not-some_above.false in
+    sym (missing_gap _ _ below above)

@@ -9,24 +9,31 @@ use Rattle.card_places.proofs.range.some_above.Goals as goal
 
 pub loop-i-init : goal.loop-i-init
 unfolding ranges_of
-loop-i-init c = (omega arith, ap (λ (l : List Range). some_above l c.args.oid) (tab_start (range_in c.args.numbers.now) c.args.count))
+loop-i-init c =
+    let a = c.args in
+    let start = tab_start (range_in a.numbers.now) a.count in
+    record { in_range = omega arith; rest = ap (λ (l : List Range). some_above l a.oid) start }
 
 pub returns-then-oid-wide : goal.returns-then-oid-wide
 returns-then-oid-wide c =
     let a = c.args in
     let l = c.loop-i in
-    let first = c.wide in
-    sym (above_here a.oid _ _ _ (range_next a.numbers.now l.i a.count first.result _ (omega arith) first.ensures.0 refl) c.if-oid-wide.true) ∙ l.invariant.1
+    let next = range_next a.numbers.now l.i a.count c.wide.result _ (omega arith) c.wide.ensures.0 refl in
+    sym (above_here a.oid _ _ _ next c.if-oid-wide.true) ∙ l.invariant.rest
 
 pub loop-i-preserved : goal.loop-i-preserved
 loop-i-preserved c =
     let a = c.args in
     let l = c.loop-i in
-    let first = c.wide in
-    (omega arith, sym (above_later a.oid _ _ _ (range_next a.numbers.now l.i a.count first.result _ (omega arith) first.ensures.0 refl) c.if-oid-wide.false) ∙ l.invariant.1)
+    let next = range_next a.numbers.now l.i a.count c.wide.result _ (omega arith) c.wide.ensures.0 refl in
+    record {
+      in_range = omega arith;
+      rest = sym (above_later a.oid _ _ _ next c.if-oid-wide.false) ∙ l.invariant.rest;
+    }
 
 pub returns : goal.returns
 returns c =
     let a = c.args in
     let l = c.loop-i in
-    sym (above_none a.oid _ (tab_end (range_in a.numbers.now) l.i a.count (omega arith))) ∙ l.invariant.1
+    let end = tab_end (range_in a.numbers.now) l.i a.count (omega arith) in
+    sym (above_none a.oid _ end) ∙ l.invariant.rest

@@ -6,7 +6,11 @@ use Rattle.card.specs.Range.{range_in, ranges_of, some_above}
 use Rattle.card_places.proofs.range.some_above.Given as goal
 
 abbrev pub invariant-loop-i : goal.invariant-loop-i
-invariant-loop-i l = (l.i ≤ l.count) × (some_above (tabulate (range_in l.numbers) l.i (l.count - l.i)) l.oid ≡ some_above (ranges_of l.numbers l.count) l.oid)
+invariant-loop-i l = record {
+  in_range : l.i ≤ l.count;
+  rest : some_above (tabulate (range_in l.numbers) l.i (l.count - l.i)) l.oid
+      ≡ some_above (ranges_of l.numbers l.count) l.oid;
+}
 
 abbrev pub decreases-loop-i : goal.decreases-loop-i
 decreases-loop-i l = l.count - l.i

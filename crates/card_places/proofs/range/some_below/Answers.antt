@@ -9,26 +9,31 @@ use Rattle.card_places.proofs.range.some_below.Goals as goal
 
 pub loop-i-init : goal.loop-i-init
 unfolding ranges_of
-loop-i-init c = (omega arith, ap (λ (l : List Range). some_below l c.args.oid) (tab_start (range_in c.args.numbers.now) c.args.count))
+loop-i-init c =
+    let a = c.args in
+    let start = tab_start (range_in a.numbers.now) a.count in
+    record { in_range = omega arith; rest = ap (λ (l : List Range). some_below l a.oid) start }
 
 pub returns-then-first-pages : goal.returns-then-first-pages
 returns-then-first-pages c =
     let a = c.args in
     let l = c.loop-i in
-    let first = c.wide-first in
-    let pages = c.wide-pages in
-    sym (below_here a.oid _ _ _ (range_next a.numbers.now l.i a.count first.result pages.result (omega arith) first.ensures.0 pages.ensures.0) c.if-first-pages.true) ∙ l.invariant.1
+    let next = range_next a.numbers.now l.i a.count _ _ (omega arith) c.wide-first.ensures.0 c.wide-pages.ensures.0 in
+    sym (below_here a.oid _ _ _ next c.if-first-pages.true) ∙ l.invariant.rest
 
 pub loop-i-preserved : goal.loop-i-preserved
 loop-i-preserved c =
     let a = c.args in
     let l = c.loop-i in
-    let first = c.wide-first in
-    let pages = c.wide-pages in
-    (omega arith, sym (below_later a.oid _ _ _ (range_next a.numbers.now l.i a.count first.result pages.result (omega arith) first.ensures.0 pages.ensures.0) c.if-first-pages.false) ∙ l.invariant.1)
+    let next = range_next a.numbers.now l.i a.count _ _ (omega arith) c.wide-first.ensures.0 c.wide-pages.ensures.0 in
+    record {
+      in_range = omega arith;
+      rest = sym (below_later a.oid _ _ _ next c.if-first-pages.false) ∙ l.invariant.rest;
+    }
 
 pub returns : goal.returns
 returns c =
     let a = c.args in
     let l = c.loop-i in
-    sym (below_none a.oid _ (tab_end (range_in a.numbers.now) l.i a.count (omega arith))) ∙ l.invariant.1
+    let end = tab_end (range_in a.numbers.now) l.i a.count (omega arith) in
+    sym (below_none a.oid _ end) ∙ l.invariant.rest

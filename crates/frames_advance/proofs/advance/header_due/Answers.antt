@@ -1,50 +1,59 @@
 -- `frames_advance::advance::header_due` meets its contract.
+use Prim.Native.Nat.{ℕ}
 use mathlib.Core.Bool.{false}
+use mathlib.Core.Logic.{◌≢◌}
 use mathlib.Core.Path.{◌≡◌}
 use native.Mathlib.Omega.{arith}
+use Rattle.card.specs.Question.{first_no}
 use Rattle.frames.proofs.DueLaws.{due_migration, advance_done, advance_flushed, migration_put, header_put, not_owed, due_flush, due_header}
 use Rattle.frames.proofs.ReadyLaws.{ready, writable}
-use Rattle.frames.specs.Promise.{reported}
-use Rattle.record.proofs.Held.{Held, held}
+use Rattle.frames.specs.Promise.{common_asks, reported}
+use Rattle.record.proofs.Held.{held}
 use Rattle.record.specs.Meaning.{phase_of}
+use Rattle.record.specs.declared.store.Store.{Store}
 use Rattle.recovery.specs.State.{is_owed}
 use Rattle.recovery.specs.Step.{migration, header}
 use Rattle.frames_advance.proofs.advance.header_due.Goals as goal
-use Rattle.frames_advance.proofs.advance.header_due.Goals.{Start}
 
-good : (a : Start) → Held a.args.s
-good a = held a.args.s (ready a.args.s _ _ a.requires.0).together
-
-calm : (a : Start) → is_owed (phase_of a.args.s.phase) ≡ false
-calm a = not_owed a.args.s a.requires.1.1.1.1 (good a)
+calm : (s : Store) (m c : ℕ) → first_no (common_asks s m c) ≡ 0 → s.phase ≢ 2 → is_owed (phase_of s.phase) ≡ false
+calm s m c asked h = not_owed s h (held s (ready s m c asked).together)
 
 pub migrate-w-requires : goal.migrate-w-requires
-migrate-w-requires c =
-    (writable c.args.s _ _ (ready c.args.s _ _ c.requires.0) c.requires.1.1.1.1, c.if-s.true)
+migrate-w-requires c = (writable c.args.s _ _ (ready c.args.s _ _ c.requires.0) c.requires.1.1.1.1, c.if-s.true)
 
 pub returns-then-s : goal.returns-then-s
 unfolding reported
 returns-then-s c =
-    let at-start = (goal.at.returns-then-s c).Start in
-    advance_done at-start.args.s _ _ at-start.requires.0 migration migration_put _ _ (due_migration at-start.args.s _ (calm at-start) (λ e. omega (arith, e, at-start.requires.1.1.0)) at-start.requires.1.0 at-start.requires.1.1.1.0 c.if-s.true) (c.migrate-w.ensures _)
+    let s = c.args.s in
+    let r = c.requires in
+    let due = due_migration s _ (calm s _ _ r.0 r.1.1.1.1) (λ e. omega arith) r.1.0 r.1.1.1.0 c.if-s.true in
+    advance_done s _ _ r.0 migration migration_put _ _ due (c.migrate-w.ensures _)
 
 pub flush_all-t-requires : goal.flush_all-t-requires
 flush_all-t-requires c =
-    ((ready c.args.s _ _ c.requires.0).together, (c.if-s-eq0.true, (c.requires.1.1.0, (c.requires.1.1.1.0, c.if-s.false))))
+    let r = c.requires in
+    ((ready c.args.s _ _ r.0).together, (c.if-s-eq0.true, (r.1.1.0, (r.1.1.1.0, c.if-s.false))))
 
 pub returns-then-s-eq0 : goal.returns-then-s-eq0
 unfolding reported
 returns-then-s-eq0 c =
-    let at-start = (goal.at.returns-then-s-eq0 c).Start in
-    advance_flushed at-start.args.s _ _ at-start.requires.0 _ (due_flush at-start.args.s _ (calm at-start) (λ e. omega (arith, e, at-start.requires.1.1.0)) at-start.requires.1.0 at-start.requires.1.1.1.0 c.if-s.false c.if-s-eq0.true) c.flush_all-t.ensures
+    let s = c.args.s in
+    let r = c.requires in
+    let calm = calm s _ _ r.0 r.1.1.1.1 in
+    let due = due_flush s _ calm (λ e. omega arith) r.1.0 r.1.1.1.0 c.if-s.false c.if-s-eq0.true in
+    advance_flushed s _ _ r.0 _ due c.flush_all-t.ensures
 
 pub header_block-w-requires : goal.header_block-w-requires
 header_block-w-requires c =
-    (writable c.args.s _ _ (ready c.args.s _ _ c.requires.0) c.requires.1.1.1.1, (c.requires.1.0, c.requires.1.1.0))
+    let r = c.requires in
+    (writable c.args.s _ _ (ready c.args.s _ _ r.0) r.1.1.1.1, (r.1.0, r.1.1.0))
 
 pub returns : goal.returns
 unfolding reported
 returns c =
-    let at-start = (goal.at.returns c).Start in
-    let h = good at-start in
-    advance_done at-start.args.s _ _ at-start.requires.0 header header_put _ _ (due_header at-start.args.s _ (calm at-start) (λ e. omega (arith, e, at-start.requires.1.1.0)) at-start.requires.1.0 at-start.requires.1.1.1.0 c.if-s.false (omega (arith, h.phase_known, c.if-s-eq0.false, at-start.requires.1.1.1.1))) (c.header_block-w.ensures _)
+    let s = c.args.s in
+    let r = c.requires in
+    let known = (held s (ready s _ _ r.0).together).phase_known in
+    let calm = calm s _ _ r.0 r.1.1.1.1 in
+    let due = due_header s _ calm (λ e. omega arith) r.1.0 r.1.1.1.0 c.if-s.false (omega (arith, known)) in
+    advance_done s _ _ r.0 header header_put _ _ due (c.header_block-w.ensures _)

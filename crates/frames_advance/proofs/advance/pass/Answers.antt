@@ -5,4 +5,6 @@ use Rattle.record.proofs.Held.{held}
 use Rattle.frames_advance.proofs.advance.pass.Goals as goal
 
 pub returns : goal.returns
-returns c = (refl, pass_holds c.args.s (held c.args.s c.requires.0) c.args.passed c.requires.1.0 c.requires.1.1.0 c.requires.1.1.1)
+returns c =
+    let r = c.requires in
+    (refl, pass_holds c.args.s (held c.args.s r.0) c.args.passed r.1.0 r.1.1.0 r.1.1.1)

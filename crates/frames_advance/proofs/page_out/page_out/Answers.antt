@@ -10,13 +10,4 @@ returns-then-no-ne0 c = page_out_common c.args.s _ _ _ c.common-no.ensures c.if-
 
 pub returns-then-s-eq2 : goal.returns-then-s-eq2
 unfolding reported
-returns-then-s-eq2 c =
-    page_out_owed c.args.s _ _ (sym c.common-no.ensures ∙ c.if-no-ne0.false) c.if-s-eq2.true
-
-pub out_due-requires : goal.out_due-requires
-unfolding reported
-out_due-requires c = ((sym c.common-no.ensures ∙ c.if-no-ne0.false), c.if-s-eq2.false)
-
-pub returns : goal.returns
-unfolding reported
-returns c = c.out_due.ensures
+returns-then-s-eq2 c = page_out_owed c.args.s _ _ (sym c.common-no.ensures ∙ c.if-no-ne0.false) c.if-s-eq2.true

@@ -10,33 +10,35 @@ pending_first-first-requires c = (ready c.args.s _ _ c.requires.0).together
 
 pub at-to-requires : goal.at-to-requires
 at-to-requires c =
-    let r = ready c.args.s _ _ c.requires.0 in
-    let h = held c.args.s r.together in
-    let b = bounds c.args.s h in
-    (b.area_high, (omega (arith, c.pending_first-first.ensures, (firsts c.args.s h).pending_in), omega (arith, pending_short c.args.s h, c.requires.1)))
+    let s = c.args.s in
+    let h = held s (ready s _ _ c.requires.0).together in (
+      (bounds s h).area_high,
+      (omega (arith, c.pending_first-first.ensures, (firsts s h).pending_in), omega (arith, pending_short s h)),
+    )
 
 pub seat-next-requires : goal.seat-next-requires
 seat-next-requires c =
     let r = ready c.args.s _ _ c.requires.0 in
-    let h = held c.args.s r.together in
-    (h.head_low, (omega (arith, r.frames_low), r.frames_high))
+    ((held c.args.s r.together).head_low, (omega (arith, r.frames_low), r.frames_high))
 
 pub at-requires : goal.at-requires
 at-requires c =
     let r = ready c.args.s _ _ c.requires.0 in
-    let h = held c.args.s r.together in
-    omega (arith, r.memory_is, h.head_low)
+    omega (arith, r.memory_is, (held c.args.s r.together).head_low)
 
 pub put-requires : goal.put-requires
 put-requires c =
-    let r = ready c.args.s _ _ c.requires.0 in
-    let h = held c.args.s r.together in
-    (area_block c.args.s _ _ r _ _ _ (omega (arith, c.pending_first-first.ensures, (firsts c.args.s h).pending_in)) (omega (arith, pending_short c.args.s h, c.requires.1)) c.at-to.ensures, c.at.ensures.1)
+    let s = c.args.s in
+    let r = ready s _ _ c.requires.0 in
+    let h = held s r.together in (
+      area_block s _ _ r _ _ _ (omega (arith, c.pending_first-first.ensures, (firsts s h).pending_in))
+          (omega (arith, pending_short s h)) c.at-to.ensures,
+      c.at.ensures.1,
+    )
 
 pub returns : goal.returns
 returns c =
-    let at-seat = c.seat-next in
-    let at-pending-first = c.pending_first-first in
-    let at_at = c.at-to in
-    let r = ready c.args.s _ _ c.requires.0 in
-    pending_done c.args.s _ _ r _ at-seat.ensures _ _ _ _ c.requires.1 at-pending-first.ensures at_at.ensures c.put.ensures c.at.ensures.0
+    let s = c.args.s in
+    let r = c.requires in
+    pending_done s _ _ (ready s _ _ r.0) _ c.seat-next.ensures _ _ _ _ r.1 c.pending_first-first.ensures c.at-to.ensures
+    c.put.ensures c.at.ensures.0

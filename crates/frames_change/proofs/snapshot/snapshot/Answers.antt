@@ -9,8 +9,7 @@ pub returns-then-no-ne0 : goal.returns-then-no-ne0
 returns-then-no-ne0 c = snapshot_common c.args.s _ _ _ c.common-no.ensures c.if-no-ne0.true
 
 pub returns-then-s-ne0 : goal.returns-then-s-ne0
-returns-then-s-ne0 c =
-    snapshot_16 c.args.s _ _ (sym c.common-no.ensures ∙ c.if-no-ne0.false) c.if-s-ne0.true
+returns-then-s-ne0 c = snapshot_16 c.args.s _ _ (sym c.common-no.ensures ∙ c.if-no-ne0.false) c.if-s-ne0.true
 
 pub returns-then-s-eq0 : goal.returns-then-s-eq0
 returns-then-s-eq0 c =
@@ -18,18 +17,15 @@ returns-then-s-eq0 c =
 
 pub returns-then-s-ge4294967295 : goal.returns-then-s-ge4294967295
 returns-then-s-ge4294967295 c =
-    let at-common = c.common-no in
-    let at-if1 = c.if-no-ne0 in
-    snapshot_18 c.args.s _ _ (sym at-common.ensures ∙ at-if1.false) c.if-s-ne0.false c.if-s-eq0.false c.if-s-ge4294967295.true
+    let asked = sym c.common-no.ensures ∙ c.if-no-ne0.false in
+    snapshot_18 c.args.s _ _ asked c.if-s-ne0.false c.if-s-eq0.false c.if-s-ge4294967295.true
 
 pub mark-t-requires : goal.mark-t-requires
 mark-t-requires c =
-    let at-common = c.common-no in
-    let at-if1 = c.if-no-ne0 in
-    ((ready c.args.s _ _ (sym at-common.ensures ∙ at-if1.false)).together, (c.if-s-ne0.false, (omega (arith, c.if-s-eq0.false), omega (arith, c.if-s-ge4294967295.false))))
+    let asked = sym c.common-no.ensures ∙ c.if-no-ne0.false in
+    ((ready c.args.s _ _ asked).together, (c.if-s-ne0.false, (omega arith, omega arith)))
 
 pub returns : goal.returns
 returns c =
-    let at-common = c.common-no in
-    let at-if1 = c.if-no-ne0 in
-    snapshot_done c.args.s _ _ (sym at-common.ensures ∙ at-if1.false) c.if-s-ne0.false c.if-s-eq0.false _ (omega (arith, c.if-s-ge4294967295.false)) c.mark-t.ensures
+    let asked = sym c.common-no.ensures ∙ c.if-no-ne0.false in
+    snapshot_done c.args.s _ _ asked c.if-s-ne0.false c.if-s-eq0.false _ (omega arith) c.mark-t.ensures

@@ -4,4 +4,6 @@ use Rattle.record.proofs.Held.{held}
 use Rattle.frames_checkpoint.proofs.kind.flush_all.Goals as goal
 
 pub returns : goal.returns
-returns c = flush_step c.args.s (held c.args.s c.requires.0) c.requires.1.0 c.requires.1.1.0 c.requires.1.1.1.0 c.requires.1.1.1.1
+returns c =
+    let r = c.requires in
+    flush_step c.args.s (held c.args.s r.0) r.1.0 r.1.1.0 r.1.1.1.0 r.1.1.1.1

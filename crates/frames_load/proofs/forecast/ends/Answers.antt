@@ -10,4 +10,4 @@ pub returns-then-phase-eq1 : goal.returns-then-phase-eq1
 returns-then-phase-eq1 c = (ends_flushed _ c.if-phase-eq1.true, omega arith)
 
 pub returns : goal.returns
-returns c = (ends_owed _ (omega (arith, c.requires, c.if-phase-eq0.false, c.if-phase-eq1.false)), omega arith)
+returns c = (ends_owed _ (omega arith), omega arith)

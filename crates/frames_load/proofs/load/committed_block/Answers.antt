@@ -8,14 +8,11 @@ use Rattle.frames_load.proofs.load.committed_block.Goals as goal
 pub find-i-requires : goal.find-i-requires
 find-i-requires c = parts_rise c.requires
 
-pub from_short-requires : goal.from_short-requires
-from_short-requires c = tt
-
 pub returns-then-i-count : goal.returns-then-i-count
 returns-then-i-count c = parts_home c.find-i.ensures _ c.if-i-count.true c.from_short.ensures.0
 
 pub place_at-requires : goal.place_at-requires
-place_at-requires c = omega (arith, c.find-i.ensures.most, c.if-i-count.false, (parts_rise c.requires).0)
+place_at-requires c = omega (arith, c.find-i.ensures.most, (parts_rise c.requires).0)
 
 pub at-requires : goal.at-requires
 at-requires c = parts_fit c.find-i.ensures c.requires c.if-i-count.false c.place_at.ensures.0

@@ -8,9 +8,7 @@ use Rattle.recovery.specs.State.{read_frame}
 use Rattle.frames_load.proofs.load.load.Goals as goal
 
 pub short-requires : goal.short-requires
-short-requires c =
-    let r = ready c.args.s _ _ c.requires.0 in
-    omega (arith, c.requires.1, r.blocks_high)
+short-requires c = omega (arith, (ready c.args.s _ _ c.requires.0).blocks_high)
 
 pub newest-r-requires : goal.newest-r-requires
 newest-r-requires c =
@@ -18,35 +16,29 @@ newest-r-requires c =
     rw c.short.ensures (r.together, (c.requires.1, r.frames_high))
 
 pub at-requires : goal.at-requires
-at-requires c =
-    let r = ready c.args.s _ _ c.requires.0 in
-    omega (arith, c.newest-r.ensures.in_memory c.if-r.true, r.memory_is)
+at-requires c = omega (arith, c.newest-r.ensures.in_memory c.if-r.true, (ready c.args.s _ _ c.requires.0).memory_is)
 
 pub returns-then-r : goal.returns-then-r
 returns-then-r c =
-    let at-newest = c.newest-r in
     let card = c.args.card.now in
     let memory = c.args.memory.now in (
       c.at.ensures.0
-          ∙ sym (from_memory at-newest.result card memory c.if-r.true)
-          ∙ at-newest.ensures.there card memory
+          ∙ sym (from_memory c.newest-r.result card memory c.if-r.true)
+          ∙ c.newest-r.ensures.there card memory
           ∙ ap (read_frame (state_of c.args.s memory) card) c.short.ensures,
       c.at.ensures.1,
     )
 
 pub at-requires-2 : goal.at-requires-2
-at-requires-2 c =
-    let r = ready c.args.s _ _ c.requires.0 in
-    omega (arith, c.newest-r.ensures.on_card c.if-r.false, r.card_is)
+at-requires-2 c = omega (arith, c.newest-r.ensures.on_card c.if-r.false, (ready c.args.s _ _ c.requires.0).card_is)
 
 pub returns : goal.returns
 returns c =
-    let at-newest = c.newest-r in
     let card = c.args.card.now in
     let memory = c.args.memory.now in (
       c.at-2.ensures.0
-          ∙ sym (from_card at-newest.result card memory c.if-r.false)
-          ∙ at-newest.ensures.there card memory
+          ∙ sym (from_card c.newest-r.result card memory c.if-r.false)
+          ∙ c.newest-r.ensures.there card memory
           ∙ ap (read_frame (state_of c.args.s memory) card) c.short.ensures,
       c.at-2.ensures.1,
     )

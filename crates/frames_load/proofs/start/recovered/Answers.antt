@@ -5,4 +5,6 @@ use Rattle.frames_load.proofs.start.recovered.Goals as goal
 
 pub returns : goal.returns
 returns c =
-    started c.args.memory.now c.args.card.now c.args.c c.requires c.no_change-pending.result c.no_change-current.result (none_is _ c.no_change-pending.ensures) (none_is _ c.no_change-current.ensures)
+    let a = c.args in
+    started a.memory.now a.card.now a.c c.requires c.no_change-pending.result c.no_change-current.result
+    (none_is _ c.no_change-pending.ensures) (none_is _ c.no_change-current.ensures)

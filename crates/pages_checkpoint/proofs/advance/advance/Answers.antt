@@ -25,7 +25,10 @@ advance-requires c =
       asked,
       (
         passed_low a.s a.card.now _ a.memory.now told,
-        (passed_few a.s a.card.now _ a.memory.now (ready a.s _ _ asked).together told, λ o. passed_due a.s a.card.now _ a.memory.now o told),
+        (
+          passed_few a.s a.card.now _ a.memory.now (ready a.s _ _ asked).together told,
+          λ o. passed_due a.s a.card.now _ a.memory.now o told,
+        ),
       ),
     )
 

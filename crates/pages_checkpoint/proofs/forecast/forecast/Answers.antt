@@ -14,4 +14,5 @@ pub forecast-requires : goal.forecast-requires
 forecast-requires c = ((ready _ _ _ (sym c.common-no.ensures ∙ c.if-no-ne0.false)).together, c.moves-moves.ensures.1)
 
 pub returns : goal.returns
-returns c = forecast-done _ _ (sym c.common-no.ensures ∙ c.if-no-ne0.false) _ (c.moves-moves.ensures.0 _) c.forecast.ensures
+returns c =
+    forecast-done _ _ (sym c.common-no.ensures ∙ c.if-no-ne0.false) _ (c.moves-moves.ensures.0 _) c.forecast.ensures

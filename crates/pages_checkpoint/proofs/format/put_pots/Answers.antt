@@ -1,4 +1,5 @@
--- `pages_checkpoint::format::put_pots` meets its contract. The loop has put the pots of the first i ranges; the next range starts at `at`.
+-- `pages_checkpoint::format::put_pots` meets its contract. The loop has put the pots of the first i ranges; the next
+-- range starts at `at`.
 use native.Mathlib.Omega.{arith}
 use Rattle.card.proofs.RangeLaws.{geometry_tells}
 use Rattle.pages.proofs.PotsLaws.{left_all, left_fits, left_next, left_none}
@@ -10,32 +11,22 @@ overflow_add-at c =
     omega (arith, t.area_high)
 
 pub loop-i-init : goal.loop-i-init
-loop-i-init c = (omega arith, left_all c.args.numbers.now c.args.count c.args.area c.args.card.now c.requires.0 c.requires.1.1)
-
-pub overflow_add-pages : goal.overflow_add-pages
-overflow_add-pages c = omega (arith, c.wide-pages.ensures.1)
+loop-i-init c =
+    (omega arith, left_all c.args.numbers.now c.args.count c.args.area c.args.card.now c.requires.0 c.requires.1.1)
 
 pub put_range-requires : goal.put_range-requires
 put_range-requires c =
     let fits = left_fits c.loop-i.invariant.1 c.wide-pages.result c.wide-pages.ensures.0 (omega arith) in
     omega (arith, fits)
 
-pub blocks-at-requires : goal.blocks-at-requires
-blocks-at-requires c = c.wide-pages.ensures.1
-
-pub overflow_add-at-in-loop-i : goal.overflow_add-at-in-loop-i
-overflow_add-at-in-loop-i c =
-    let at-loop = c.loop-i in
-    let at_wide = c.wide-pages in
-    let fits = left_fits at-loop.invariant.1 at_wide.result at_wide.ensures.0 (omega arith) in
-    omega (arith, fits, c.blocks-at.ensures)
-
 pub loop-i-preserved : goal.loop-i-preserved
 loop-i-preserved c =
-    let at-loop = c.loop-i in
-    let at_wide = c.wide-pages in
-    let p = c.put_range in
-    (omega arith, rw c.blocks-at.ensures (left_next at-loop.invariant.1 at_wide.result at_wide.ensures.0 (omega arith) _ (omega (arith, p.auto.card)) p.ensures))
+    let w = c.wide-pages in (
+      omega arith,
+      rw c.blocks-at.ensures
+          (left_next c.loop-i.invariant.1 w.result w.ensures.0 (omega arith) _ (omega (arith, c.put_range.auto.card))
+          c.put_range.ensures),
+    )
 
 pub returns : goal.returns
 returns c = left_none c.loop-i.invariant.1 (omega arith)

@@ -1,4 +1,5 @@
--- `pages_checkpoint::format::put_pots` meets its contract. The loop has put the pots of the first i ranges; the next range starts at `at`.
+-- `pages_checkpoint::format::put_pots` meets its contract. The loop has put the pots of the first i ranges; the next
+-- range starts at `at`.
 use Prim.Native.Nat.{◌+◌, ◌-◌, ◌≤◌}
 use Rattle.pages.proofs.PotsLaws.{PotsLeft}
 use Rattle.pages_checkpoint.proofs.format.put_pots.Given as goal

@@ -1,5 +1,5 @@
 -- `pages_checkpoint::format::put_range` meets its contract. The loop has put the first i pots.
-use mathlib.Core.Path.{◌≡◌, refl, ◌∙◌}
+use mathlib.Core.Path.{refl, ◌∙◌}
 use native.Mathlib.Omega.{arith}
 use Rattle.card.specs.Bytes.{tabulate}
 use Rattle.pages.proofs.PotsLaws.{pots_more}
@@ -15,10 +15,6 @@ loop-i-preserved c =
     let at-fresh = c.fresh-pot in
     let at-loop = c.loop-i in
     let p = c.put in
-    let put = p.ensures ∙ pots_more c.args.card.now _ at-fresh.result c.args.start at-loop.i at-fresh.ensures at-loop.invariant.1.0 in
+    let put = p.ensures ∙ pots_more c.args.card.now _ at-fresh.result c.args.start at-loop.i at-fresh.ensures
+    at-loop.invariant.1.0 in
     (omega arith, (put, omega (arith, p.auto.card, at-loop.invariant.1.1)))
-
-pub returns : goal.returns
-returns c =
-    let e : c.loop-i.i ≡ c.args.count = omega arith in
-    rw e at c.loop-i.invariant.1.0

@@ -7,7 +7,9 @@ use Rattle.pages.specs.Page.{put_pots}
 use Rattle.pages_checkpoint.proofs.format.put_range.Given as goal
 
 abbrev pub invariant-loop-i : goal.invariant-loop-i
-invariant-loop-i l = (l.i ≤ l.count) × ((l.card ≡ put_pots l.initial.card (tabulate (λ k. l.start + 103 * k) 0 l.i)) × (length l.card ≡ length l.initial.card))
+invariant-loop-i l =
+    (l.i ≤ l.count) × ((l.card ≡ put_pots l.initial.card (tabulate (λ k. l.start + 103 * k) 0 l.i))
+    × (length l.card ≡ length l.initial.card))
 
 abbrev pub decreases-loop-i : goal.decreases-loop-i
 decreases-loop-i l = l.count - l.i

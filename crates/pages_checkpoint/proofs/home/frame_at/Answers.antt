@@ -12,7 +12,14 @@ use Rattle.pages_checkpoint.proofs.home.frame_at.Goals as goal
 
 pub loop-i-init : goal.loop-i-init
 unfolding ranges_of
-loop-i-init c = (omega arith, (omega arith, ap (λ (l : List Range). frame_at l (1 + c.args.area) c.args.f) (tab_start (range_in c.args.numbers.now) c.args.count)))
+loop-i-init c = (
+  omega arith,
+  (
+    omega arith,
+    ap (λ (l : List Range). frame_at l (1 + c.args.area) c.args.f)
+        (tab_start (range_in c.args.numbers.now) c.args.count),
+  ),
+)
 
 pub returns-then-f-next : goal.returns-then-f-next
 returns-then-f-next c =
@@ -20,7 +27,9 @@ returns-then-f-next c =
     let l = c.loop-i in
     let wide = c.wide-pages in
     c.frame_in.ensures
-    ∙ sym (list_here l.start a.f _ _ _ (range_next a.numbers.now l.i a.count _ wide.result (omega arith) refl wide.ensures.0) (omega (arith, c.if-f-next.true, c.blocks-in-loop-i.ensures)))
+    ∙ sym (list_here l.start a.f _ _ _
+    (range_next a.numbers.now l.i a.count _ wide.result (omega arith) refl wide.ensures.0)
+    (omega (arith, c.if-f-next.true, c.blocks-in-loop-i.ensures)))
     ∙ l.invariant.1.1
 
 pub loop-i-preserved : goal.loop-i-preserved
@@ -32,7 +41,9 @@ loop-i-preserved c =
       (
         omega (arith, c.if-f-next.false),
         rw c.blocks-in-loop-i.ensures
-            (sym (list_later l.start a.f _ _ _ (range_next a.numbers.now l.i a.count _ wide.result (omega arith) refl wide.ensures.0) (omega (arith, c.if-f-next.false, c.blocks-in-loop-i.ensures))))
+            (sym (list_later l.start a.f _ _ _
+            (range_next a.numbers.now l.i a.count _ wide.result (omega arith) refl wide.ensures.0)
+            (omega (arith, c.if-f-next.false, c.blocks-in-loop-i.ensures))))
             ∙ l.invariant.1.1,
       ),
     )

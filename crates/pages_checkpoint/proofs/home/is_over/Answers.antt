@@ -16,16 +16,19 @@ pub committed-pot-requires : goal.committed-pot-requires
 committed-pot-requires c = asked_lent c.requires _ (found (goal.at.committed-pot-requires c).In-Page)
 
 pub is_zero-requires : goal.is_zero-requires
-is_zero-requires c = (c.committed-pot.ensures.1, asked_entry c.requires _ (found (goal.at.is_zero-requires c).In-Page))
+is_zero-requires c =
+    (c.committed-pot.ensures.1, asked_entry c.requires _ (found (goal.at.is_zero-requires c).In-Page))
 
 pub returns-in-Page : goal.returns-in-Page
 returns-in-Page c =
     let a = c.args in
     λ s same parts w.
     let e = sym (ap (λ (x : Geometry). frame_by x a.f) same) ∙ found (goal.at.returns-in-Page c).In-Page in
-    over_some s a.card.now w a.f _ e _ (c.committed-pot.ensures.0 s parts w (pot_inside s a.card.now w a.f _ e)) _ c.is_zero.ensures
+    over_some s a.card.now w a.f _ e _ (c.committed-pot.ensures.0 s parts w (pot_inside s a.card.now w a.f _ e)) _
+    c.is_zero.ensures
 
 pub returns-in-Pot : goal.returns-in-Pot
 returns-in-Pot c =
     let a = c.args in
-    λ s same parts w. over_none s a.card.now w a.f (sym (ap (λ (x : Geometry). frame_by x a.f) same) ∙ sym c.frame_at.ensures ∙ c.in-Pot.is)
+    λ s same parts w. over_none s a.card.now w a.f
+    (sym (ap (λ (x : Geometry). frame_by x a.f) same) ∙ sym c.frame_at.ensures ∙ c.in-Pot.is)

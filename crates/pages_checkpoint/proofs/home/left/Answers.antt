@@ -12,7 +12,7 @@ few : (a : Start) → a.args.s.committed.count ≤ 256
 few a = (bounds a.args.s (held a.args.s a.requires.together)).committed_small
 
 told : (x : After-is_over) → OverIs x.args.s x.args.card.now x.at.result x.is_over.result
-told x = let at-start = x.before.before.before.before.before.before.before.before.before.before.before.before.before in x.is_over.ensures at-start.args.s refl (own_parts at-start.args.s) at-start.requires
+told x = x.is_over.ensures x.args.s refl (own_parts x.args.s) x.requires
 
 pub loop-i-init : goal.loop-i-init
 loop-i-init c =
@@ -23,23 +23,32 @@ at-requires c = omega (arith, few (goal.at.at-requires c).Start)
 
 pub is_over-requires : goal.is_over-requires
 is_over-requires c =
-    own_asked c.args.s _ _ c.requires (rw c.at.ensures.0 (frame_home c.args.s c.args.card.now c.loop-i.i (omega arith) c.requires.together))
+    own_asked c.args.s _ _ c.requires
+    (rw c.at.ensures.0 (frame_home c.args.s c.args.card.now c.loop-i.i (omega arith) c.requires.together))
 
 pub loop-i-preserved-then-is_over : goal.loop-i-preserved-then-is_over
 loop-i-preserved-then-is_over c =
     let l = c.loop-i in
-    (omega arith, omega (arith, l.invariant.1), moves_over c.args.s c.args.card.now l.i (omega arith) l.n _ c.at.ensures.0 _ (told (goal.at.loop-i-preserved-then-is_over c).After-is_over) c.if-is_over.true l.invariant.2)
-
-pub overflow_add-n : goal.overflow_add-n
-overflow_add-n c = let l = c.loop-i in omega (arith, l.invariant.0, l.invariant.1, few (goal.at.overflow_add-n c).Start)
+    let t = told (goal.at.loop-i-preserved-then-is_over c).After-is_over in (
+      omega arith,
+      omega arith,
+      moves_over c.args.s c.args.card.now l.i (omega arith) l.n _ c.at.ensures.0 _ t
+          c.if-is_over.true l.invariant.2,
+    )
 
 pub loop-i-preserved : goal.loop-i-preserved
 loop-i-preserved c =
     let l = c.loop-i in
-    (omega arith, omega (arith, l.invariant.1), moves_one c.args.s c.args.card.now l.i (omega arith) l.n _ c.at.ensures.0 _ (told (goal.at.loop-i-preserved c).After-is_over) c.if-is_over.false l.invariant.2)
+    let t = told (goal.at.loop-i-preserved c).After-is_over in (
+      omega arith,
+      omega arith,
+      moves_one c.args.s c.args.card.now l.i (omega arith) l.n _ c.at.ensures.0 _ t
+          c.if-is_over.false l.invariant.2,
+    )
 
 pub returns : goal.returns
 returns c =
-    let at-start = (goal.at.returns c).Start in
-    let l = c.loop-i in
-    (moves_end at-start.args.s at-start.args.card.now l.n l.i (omega arith) l.invariant.2, omega (arith, l.invariant.0, l.invariant.1, few at-start))
+    let l = c.loop-i in (
+      moves_end c.args.s c.args.card.now l.n l.i (omega arith) l.invariant.2,
+      omega (arith, few (goal.at.returns c).Start),
+    )

@@ -16,7 +16,8 @@ use Rattle.record.specs.declared.store.Geometry.{Geometry}
 use Rattle.pages_read.proofs.named.find.Goals as goal
 
 module _ (g : Geometry) (oid : ℕ) (r : Named) where
-  asked : {a : Lookup} → place_in g oid ≡ a → first_no (placed (place_in g oid) (λ p. [])) ≡ first_no (placed a (λ p. []))
+  asked : {a : Lookup} → place_in g oid ≡ a → first_no (placed (place_in g oid) (λ p. []))
+      ≡ first_no (placed a (λ p. []))
   asked e = ap (λ (b : Lookup). first_no (placed b (λ p. []))) e
 
   located : r.refusal ≡ 0 → place_in g oid ≡ Located r.address → NamedIs g oid r
@@ -27,10 +28,20 @@ module _ (g : Geometry) (oid : ℕ) (r : Named) where
   }
 
   gap : r.refusal ≡ 21 → place_in g oid ≡ Gap → r.address.entry < 102 → NamedIs g oid r
-  gap n e high = record { refusal_is = n ∙ sym (asked e ∙ placed_gap (λ p. [])); place_is = λ z. absurd (omega (arith, n, z)); entry_high = high }
+  gap n e high =
+      record {
+        refusal_is = n ∙ sym (asked e ∙ placed_gap (λ p. []));
+        place_is = λ z. absurd (omega (arith, n, z));
+        entry_high = high;
+      }
 
   outside : r.refusal ≡ 9 → place_in g oid ≡ Outside → r.address.entry < 102 → NamedIs g oid r
-  outside n e high = record { refusal_is = n ∙ sym (asked e ∙ placed_outside (λ p. [])); place_is = λ z. absurd (omega (arith, n, z)); entry_high = high }
+  outside n e high =
+      record {
+        refusal_is = n ∙ sym (asked e ∙ placed_outside (λ p. []));
+        place_is = λ z. absurd (omega (arith, n, z));
+        entry_high = high;
+      }
 
 pub returns-in-Located : goal.returns-in-Located
 returns-in-Located c = located _ _ _ refl (sym c.find.ensures ∙ c.in-Located.is)
@@ -39,4 +50,5 @@ pub returns-in-Gap : goal.returns-in-Gap
 returns-in-Gap c = gap _ _ _ c.refused.ensures.0 (sym c.find.ensures ∙ c.in-Gap.is) c.refused.ensures.1
 
 pub returns-in-Outside : goal.returns-in-Outside
-returns-in-Outside c = outside _ _ _ c.refused-in-Outside.ensures.0 (sym c.find.ensures ∙ c.in-Outside.is) c.refused-in-Outside.ensures.1
+returns-in-Outside c =
+    outside _ _ _ c.refused-in-Outside.ensures.0 (sym c.find.ensures ∙ c.in-Outside.is) c.refused-in-Outside.ensures.1

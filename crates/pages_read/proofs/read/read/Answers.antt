@@ -17,14 +17,23 @@ passed c = sym c.common-common.ensures ∙ c.if-common-ne0.false
 
 -- and 21 and 9
 found : (c : Else-n-ne0) → Found (lent c.args.s c.args.memory.now c.args.card.now) c.args.oid c.find-n.result.address
-found c = record { passed = sym c.common-common.ensures ∙ c.if-common-ne0.false; place_is = c.find-n.ensures.place_is c.if-n-ne0.false }
+found c =
+    record {
+      passed = sym c.common-common.ensures ∙ c.if-common-ne0.false;
+      place_is = c.find-n.ensures.place_is c.if-n-ne0.false;
+    }
 
 -- and 10 and 11
 keyed : (c : Else-no-ne0)
-    → Keyed (lent c.args.s c.args.memory.now c.args.card.now) c.args.oid c.args.count c.find-n.result.address c.load-pot.result.now
+    → Keyed (lent c.args.s c.args.memory.now c.args.card.now) c.args.oid c.args.count c.find-n.result.address
+    c.load-pot.result.now
     (eqb (length c.args.buffer.now) 512)
 keyed c =
-    key_passes _ _ _ _ (record { passed = sym c.common-common.ensures ∙ c.if-common-ne0.false; place_is = c.find-n.ensures.place_is c.if-n-ne0.false })
+    key_passes _ _ _ _ (record {
+      passed =
+          sym c.common-common.ensures ∙ c.if-common-ne0.false;
+      place_is = c.find-n.ensures.place_is c.if-n-ne0.false;
+    })
     _ c.load-pot.ensures.0 10 _ c.check-no.ensures c.if-no-ne0.false
 
 long : (c : Else-no-ne0) → length c.args.buffer.now ≡ 512
@@ -37,16 +46,21 @@ pub find-n-requires : goal.find-n-requires
 find-n-requires c = searchable _ (passed (goal.at.find-n-requires c).Else-common-ne0)
 
 pub returns-then-n-ne0 : goal.returns-then-n-ne0
-returns-then-n-ne0 c = read_refused _ _ _ _ (place_stops _ _ _ (passed (goal.at.returns-then-n-ne0 c).Else-common-ne0) c.find-n.ensures c.if-n-ne0.true)
+returns-then-n-ne0 c =
+    read_refused _ _ _ _ (place_stops _ _ _ (passed (goal.at.returns-then-n-ne0 c).Else-common-ne0) c.find-n.ensures
+    c.if-n-ne0.true)
 
 pub load-pot-requires : goal.load-pot-requires
 load-pot-requires c = pot_readable _ _ _ (found (goal.at.load-pot-requires c).Else-n-ne0)
 
 pub returns-then-no-ne0 : goal.returns-then-no-ne0
-returns-then-no-ne0 c = read_refused _ _ _ _ (key_stops _ _ _ _ (found (goal.at.returns-then-no-ne0 c).Else-n-ne0) _ c.load-pot.ensures.0 10 _ c.check-no.ensures _ c.if-no-ne0.true)
+returns-then-no-ne0 c =
+    read_refused _ _ _ _ (key_stops _ _ _ _ (found (goal.at.returns-then-no-ne0 c).Else-n-ne0) _ c.load-pot.ensures.0
+    10 _ c.check-no.ensures _ c.if-no-ne0.true)
 
 pub copy_from_slice-requires : goal.copy_from_slice-requires
-copy_from_slice-requires c = long (goal.at.copy_from_slice-requires c).Else-no-ne0 ∙ sym (ap length c.empty-empty.ensures ∙ zeros-length)
+copy_from_slice-requires c =
+    long (goal.at.copy_from_slice-requires c).Else-no-ne0 ∙ sym (ap length c.empty-empty.ensures ∙ zeros-length)
 
 pub returns-then-is_zero : goal.returns-then-is_zero
 returns-then-is_zero c =

@@ -7,10 +7,12 @@ use Rattle.card.specs.Pot.{count_at, flags_at, put_count, put_flags, set_zero}
 use Rattle.pages.specs.Change.{rescind_pot}
 use Rattle.pages_write.proofs.rescind.raise.Goals as goal
 
-pot-raised : (pot : List ℕ) (i : ℕ) {count flags zero : ℕ} {counted put : List ℕ} → count ≡ count_at pot i → flags ≡ flags_at pot i → counted ≡ put_count pot i (count + 1)
+pot-raised : (pot : List ℕ) (i : ℕ) {count flags zero : ℕ} {counted put : List ℕ} → count ≡ count_at pot i
+    → flags ≡ flags_at pot i → counted ≡ put_count pot i (count + 1)
     → zero ≡ set_zero flags → put ≡ put_flags counted i zero → put ≡ rescind_pot pot i
 unfolding rescind_pot
-pot-raised pot i count-is flags-is counted_is zero_is put_is = rw (put_is, counted_is, zero_is, flags-is, count-is, add-one)
+pot-raised pot i count-is flags-is counted_is zero_is put_is =
+    rw (put_is, counted_is, zero_is, flags-is, count-is, add-one)
 
 pub returns : goal.returns
 returns c =

@@ -20,45 +20,69 @@ passed c = sym c.common-common.ensures ∙ c.if-common-ne0.false
 
 -- and 21 and 9
 found : (c : Else-n-ne0) → Found (lent c.args.s c.args.memory.now c.args.card.now) c.args.oid c.find-n.result.address
-found c = record { passed = sym c.common-common.ensures ∙ c.if-common-ne0.false; place_is = c.find-n.ensures.place_is c.if-n-ne0.false }
+found c =
+    record {
+      passed = sym c.common-common.ensures ∙ c.if-common-ne0.false;
+      place_is = c.find-n.ensures.place_is c.if-n-ne0.false;
+    }
 
 -- and 10 and 15
 keyed : (c : Else-no-ne0)
-    → Keyed (lent c.args.s c.args.memory.now c.args.card.now) c.args.oid c.args.count c.find-n.result.address c.load-found.result.now
+    → Keyed (lent c.args.s c.args.memory.now c.args.card.now) c.args.oid c.args.count c.find-n.result.address
+    c.load-found.result.now
     (ltb c.args.count 4294967295)
 keyed c =
-    key_passes _ _ _ _ (record { passed = sym c.common-common.ensures ∙ c.if-common-ne0.false; place_is = c.find-n.ensures.place_is c.if-n-ne0.false })
+    key_passes _ _ _ _ (record {
+      passed =
+          sym c.common-common.ensures ∙ c.if-common-ne0.false;
+      place_is = c.find-n.ensures.place_is c.if-n-ne0.false;
+    })
     _ c.load-found.ensures.0 14 _ c.check-no.ensures c.if-no-ne0.false
 
 raised_long : (c : After-raise) → length c.raise.new.pot ≡ 512
 raised_long c = search rules
 
 pub returns-then-common-ne0 : goal.returns-then-common-ne0
-returns-then-common-ne0 c = rescind_refused _ _ _ (common_stops _ _ _ c.common-common.ensures c.if-common-ne0.true) c.unchanged.ensures
+returns-then-common-ne0 c =
+    rescind_refused _ _ _ (common_stops _ _ _ c.common-common.ensures c.if-common-ne0.true) c.unchanged.ensures
 
 pub find-n-requires : goal.find-n-requires
 find-n-requires c = searchable _ (passed (goal.at.find-n-requires c).Else-common-ne0)
 
 pub returns-then-n-ne0 : goal.returns-then-n-ne0
-returns-then-n-ne0 c = rescind_refused _ _ _ (place_stops _ _ _ (passed (goal.at.returns-then-n-ne0 c).Else-common-ne0) c.find-n.ensures c.if-n-ne0.true) c.unchanged-then-n-ne0.ensures
+returns-then-n-ne0 c =
+    rescind_refused _ _ _ (place_stops _ _ _ (passed (goal.at.returns-then-n-ne0 c).Else-common-ne0) c.find-n.ensures
+    c.if-n-ne0.true) c.unchanged-then-n-ne0.ensures
 
 pub load-found-requires : goal.load-found-requires
 load-found-requires c = pot_readable _ _ _ (found (goal.at.load-found-requires c).Else-n-ne0)
 
 pub returns-then-no-ne0 : goal.returns-then-no-ne0
-returns-then-no-ne0 c = rescind_refused _ _ _ (key_stops _ _ _ _ (found (goal.at.returns-then-no-ne0 c).Else-n-ne0) _ c.load-found.ensures.0 14 _ c.check-no.ensures _ c.if-no-ne0.true) c.unchanged-then-no-ne0.ensures
+returns-then-no-ne0 c =
+    rescind_refused _ _ _ (key_stops _ _ _ _ (found (goal.at.returns-then-no-ne0 c).Else-n-ne0) _
+    c.load-found.ensures.0 14 _ c.check-no.ensures _ c.if-no-ne0.true) c.unchanged-then-no-ne0.ensures
 
 pub raise-requires : goal.raise-requires
-raise-requires c = (search rules, (c.find-n.ensures.entry_high, rw c.array-pot.ensures (rescind_few _ _ _ _ _ (keyed (goal.at.raise-requires c).Else-no-ne0))))
+raise-requires c = (
+  search rules,
+  (
+    c.find-n.ensures.entry_high,
+    rw c.array-pot.ensures (rescind_few _ _ _ _ _ (keyed (goal.at.raise-requires c).Else-no-ne0)),
+  ),
+)
 
 pub short-requires : goal.short-requires
 short-requires c = omega (arith, (small _ _ _ (found (goal.at.short-requires c).Else-n-ne0)).1)
 
 pub change-requires : goal.change-requires
-change-requires c = pot_changing _ _ _ (found (goal.at.change-requires c).Else-n-ne0) c.short.ensures _ (raised_long (goal.at.change-requires c).After-raise)
+change-requires c =
+    pot_changing _ _ _ (found (goal.at.change-requires c).Else-n-ne0) c.short.ensures _
+    (raised_long (goal.at.change-requires c).After-raise)
 
 pub returns : goal.returns
 returns c =
-    let pot_is = c.raise.ensures ∙ ap (λ (x : List ℕ). rescind_pot x c.find-n.result.address.entry) c.array-pot.ensures in
-    rescind_done _ _ _ _ _ (keyed (goal.at.returns c).Else-no-ne0) c.short.ensures _ (raised_long (goal.at.returns c).After-raise) pot_is
+    let pot_is = c.raise.ensures ∙ ap (λ (x : List ℕ). rescind_pot x c.find-n.result.address.entry)
+    c.array-pot.ensures in
+    rescind_done _ _ _ _ _ (keyed (goal.at.returns c).Else-no-ne0) c.short.ensures _
+    (raised_long (goal.at.returns c).After-raise) pot_is
     c.change.ensures c.put.ensures

@@ -14,4 +14,5 @@ returns c =
     let pot = c.args.pot.now in
     let page-is = c.patch.ensures ∙ ap (λ (z : List ℕ). patch z c.args.at c.args.new.now) c.empty-page.ensures in
     let long : (length page ≡ 512) × (length pot ≡ 512) = (search rules, search rules) in
-    put_both _ _ _ page pot c.requires.0 long.0 long.1 c.put.ensures c.put-2.ensures ∙ ap (λ (z : List ℕ). z ++ pot) page-is
+    put_both _ _ _ page pot c.requires.0 long.0 long.1 c.put.ensures c.put-2.ensures
+    ∙ ap (λ (z : List ℕ). z ++ pot) page-is

@@ -1,12 +1,12 @@
 -- `record_hold::hold::tail_for` meets its contract.
-use borrow.Author.Tests.{eq-eqb, ne_eqb}
+use borrow.Author.Rules.{rules}
 use Rattle.record.specs.Holds.{tail_for}
 use Rattle.record_hold.proofs.hold.tail_for.Goals as goal
 
 pub returns-then-e-eq0 : goal.returns-then-e-eq0
 unfolding tail_for
-returns-then-e-eq0 c = simp (eq-eqb _ _ c.if-e-eq0.true)
+returns-then-e-eq0 c = search rules
 
 pub returns : goal.returns
 unfolding tail_for
-returns c = simp (ne_eqb _ _ c.if-e-eq0.false)
+returns c = search rules

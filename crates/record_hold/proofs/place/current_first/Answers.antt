@@ -1,8 +1,5 @@
 -- `record_hold::place::current_first` meets its contract.
-use Prim.Native.Nat.{ℕ}
-use mathlib.Core.Path.{refl, ap, ◌∙◌}
 use native.Mathlib.Omega.{arith}
-use Rattle.card.specs.Ring.{ring_at}
 use Rattle.record.proofs.Held.{held, bounds}
 use Rattle.record_hold.proofs.place.current_first.Goals as goal
 
@@ -29,6 +26,3 @@ at-requires c =
     let h = held c.args.s c.requires in
     let b = bounds c.args.s h in
     rw (c.size-a.ensures, c.size-b.ensures) (b.area_high, (h.first_high, omega (arith, h.room)))
-
-pub returns : goal.returns
-returns c = c.at.ensures ∙ ap (λ (n : ℕ). ring_at c.args.s.geometry.area c.args.s.first n) (rw (c.size-a.ensures, c.size-b.ensures) refl)

@@ -1,7 +1,4 @@
 -- `record_hold::place::put` meets its contract.
-use Prim.Native.Nat.{ℕ}
-use mathlib.Core.Path.{ap, ◌∙◌}
-use Rattle.card.specs.Block.{put_block}
 use Rattle.record.proofs.SeatLaws.{seat_fits}
 use Rattle.record_hold.proofs.place.put.Goals as goal
 
@@ -9,7 +6,3 @@ pub put-requires : goal.put-requires
 put-requires c =
     let p = c.requires in
     (seat_fits c.args.memory.now _ _ _ _ p.1.1.1.0 p.0 p.1.0 c.seat.ensures, p.1.1.1.1)
-
-pub returns : goal.returns
-returns c =
-    c.put.ensures ∙ ap (λ (n : ℕ). put_block c.args.memory.now n c.args.bytes.now) c.seat.ensures

@@ -15,18 +15,16 @@ returns-then-n-eq0 c = rw (c.if-n-eq0.true, cells_none c.args.l.now)
 pub returns-then-from_short-low : goal.returns-then-from_short-low
 returns-then-from_short-low c =
     let a = c.args in
-    sym (first_low a.high (λ k. get_or a.l.now k 0) a.low a.n (omega (arith, c.if-n-eq0.false)) (omega (arith, c.from_short.ensures.0, c.if-from_short-low.true)))
+    sym (first_low a.high (λ k. get_or a.l.now k 0) a.low a.n (omega arith) (omega (arith, c.from_short.ensures.0)))
 
 pub returns-then-high-from_short : goal.returns-then-high-from_short
 returns-then-high-from_short c =
     let a = c.args in
-    sym (last_high a.high (λ k. get_or a.l.now k 0) a.low a.n (omega (arith, c.if-n-eq0.false)) (omega (arith, c.from_short-2.ensures.0, c.if-high-from_short.true)))
+    sym (last_high a.high (λ k. get_or a.l.now k 0) a.low a.n (omega arith) (omega (arith, c.from_short-2.ensures.0)))
 
 pub returns : goal.returns
 returns c =
-    let at_last = (goal.at.returns c).Else-high-from_short in
-    let at_first = (goal.at.returns c).Else-from_short-low in
     let a = c.args in
     c.rising.ensures
-    ∙ rising_is a.high (λ k. get_or a.l.now k 0) a.low a.n (omega (arith, c.if-n-eq0.false)) (omega (arith, at_first.from_short.ensures.0, at_first.if-from_short-low.false))
-    (omega (arith, at_last.from_short-2.ensures.0, at_last.if-high-from_short.false))
+    ∙ rising_is a.high (λ k. get_or a.l.now k 0) a.low a.n (omega arith) (omega (arith, c.from_short.ensures.0))
+    (omega (arith, c.from_short-2.ensures.0))

@@ -11,4 +11,5 @@ returns-then-to-from c = each_end _ c.args.from c.args.to true refl c.if-to-from
 
 pub returns : goal.returns
 returns c =
-    c.all_ones.ensures ∙ ones_stand (cells c.args.l.now 0 c.args.n) c.tally-count.result c.tally-count.ensures c.args.from _
+    let a = c.args in
+    c.all_ones.ensures ∙ ones_stand (cells a.l.now 0 a.n) c.tally-count.result c.tally-count.ensures a.from _

@@ -1,13 +1,10 @@
 -- `record_list::list::all_taken` meets its contract. What is found so far, and the rest, give the answer.
 use borrow.Author.Tests.{lt-ltb, le-ltb}
 use native.Mathlib.Omega.{arith}
-use Rattle.card.proofs.Test.{each_start, each_no, each_yes, each_end}
+use Rattle.card.proofs.Test.{each_no, each_yes, each_end}
 use Rattle.record.proofs.ListLaws.{within_below}
 use Rattle.record_list.proofs.list.all_taken.Goals as goal
 use Rattle.record_list.proofs.list.all_taken.Goals.{then-high-l, else-high-l}
-
-pub loop-i-init : goal.loop-i-init
-loop-i-init c = each_start _ c.args.n
 
 pub loop-i-preserved : goal.loop-i-preserved
 loop-i-preserved c =

@@ -1,13 +1,9 @@
 -- `record_list::list::rising` meets its contract. What is found so far, and the rest, give the answer.
 use borrow.Author.Tests.{lt-ltb, le-ltb}
-use mathlib.Core.Path.{refl}
 use native.Mathlib.Omega.{arith}
 use Rattle.card.proofs.Test.{each_no, each_yes, each_end}
 use Rattle.record_list.proofs.list.rising.Goals as goal
 use Rattle.record_list.proofs.list.rising.Goals.{then-l-i, else-l-i}
-
-pub loop-i-init : goal.loop-i-init
-loop-i-init c = (omega arith, refl)
 
 pub loop-i-preserved : goal.loop-i-preserved
 loop-i-preserved c =

@@ -6,22 +6,19 @@ use Rattle.record_list.proofs.list.tally.Goals as goal
 pub loop-i-init : goal.loop-i-init
 loop-i-init c = rw c.zeros-count.ensures (tallied_none c.args.l.now c.args.n)
 
-pub bounds-count-x : goal.bounds-count-x
-bounds-count-x c = omega (arith, c.from_byte-x.ensures.1)
-
 pub overflow_add-count : goal.overflow_add-count
 overflow_add-count c =
-    let at-loop = c.loop-i in
-    rw c.from_byte-x.ensures.0 (omega (arith, tallied_room c.args.l.now at-loop.count at-loop.i c.args.n at-loop.invariant (omega arith)))
-
-pub bounds-count-x-in-loop-i : goal.bounds-count-x-in-loop-i
-bounds-count-x-in-loop-i c = omega (arith, c.from_byte-x.ensures.1)
+    let l = c.loop-i in
+    let room = tallied_room c.args.l.now l.count l.i c.args.n l.invariant (omega arith) in
+    rw c.from_byte-x.ensures.0 (omega (arith, room))
 
 pub loop-i-preserved : goal.loop-i-preserved
 loop-i-preserved c =
-    let at-loop = c.loop-i in
-    rw c.from_byte-x.ensures.0 (tallied_more c.args.l.now at-loop.count at-loop.i c.args.n at-loop.invariant (omega arith) (omega (arith, c.from_byte-x.ensures)))
+    let l = c.loop-i in
+    let x = c.from_byte-x.ensures in
+    rw x.0 (tallied_more c.args.l.now l.count l.i c.args.n l.invariant (omega arith) (omega (arith, x)))
 
 pub returns : goal.returns
 returns c =
-    tallied_all c.args.l.now c.loop-i.count c.loop-i.i c.args.n c.loop-i.invariant (omega arith)
+    let l = c.loop-i in
+    tallied_all c.args.l.now l.count l.i c.args.n l.invariant (omega arith)
