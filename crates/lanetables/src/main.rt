@@ -43,8 +43,24 @@ fn all(rt: &impl Print, text: &[u8]) -> io::Result<()> {
     Ok(())
 }
 
+// Fills a buffer from standard input, or as much of it as comes; tells how much.
+fn read_full(rt: &impl Input, text: &mut [u8]) -> io::Result<usize>
+    ensures { IfOk result (λ count. count ≤ length text.new) }
+{
+    let mut input = rt.reader();
+    let mut count = 0;
+    while count < text.len() {
+        let more = input.read(&mut text[count..])?;
+        if more == 0 {
+            return Ok(count);
+        }
+        count += more;
+    }
+    Ok(count)
+}
+
 fn main(rt: HostRuntime) -> io::Result<()> {
-    let mut text = Vec::new(rt.alloc());
-    rt.reader().take(65536).read_to_end(&mut text)?;
-    all(&rt, &text)
+    let mut text = [0u8; 65536];
+    let count = read_full(&rt, &mut text)?;
+    all(&rt, &text[..count])
 }
