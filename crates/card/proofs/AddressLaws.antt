@@ -13,10 +13,8 @@ use Rattle.card.proofs.AllLaws.{all_join, all_left, all_right, all_tab, tab_all,
 use Rattle.card.proofs.RangeLaws.{geometry_tells}
 use Rattle.card.proofs.Test.{by_test, both, joined}
 use Rattle.card.specs.Bytes.{tabulate, All}
-use Rattle.card.specs.Range.{Range, range_in, ranges_of, pot_count, range_blocks, geometry_fits, address_in, some_below, some_above, missing, locate_or, locate, all_blocks, all_pots}
+use Rattle.card.specs.Range.{Range, range_in, ranges_of, pot_count, range_blocks, geometry_fits, address_in, some_below, some_above, missing, locate_or, locate, all_blocks, all_pots, Lookup, Located, Gap, Outside}
 use Rattle.card.specs.declared.range.Address.{Address}
-use Rattle.card.specs.declared.range.Lookup.{Lookup}
-use Rattle.card.specs.declared.range.Lookup.TheVariants.{Located, Gap, Outside}
 
 -- ---- where a place lies
 

@@ -3,7 +3,7 @@
 use Prim.Native.Nat.{ℕ, zero, suc, ◌+◌, ◌-◌, ◌*◌, ◌≤◌, ◌<◌}
 use borrow.Rule.Slice.PartMut.{put_mid, Post-is}
 use lib.ListN.{length, take, drop, set, get_or, replicate, length-append, length-take, length-drop, length-replicate, take-append-drop, drop_of_length-le, get_or-append}
-use lib.Seq.{sets-eq, take_at, drop_at, length-take-le, take-suc, take-append-le, drop-append-le, drop-append-add, drop-drop, get_or-take, get_or-drop, take-length, get_or-append-add, get_or-set_same, get_or-set_other, ext_get_or, set_split}
+use lib.Seq.{take_at, drop_at, length-take-le, take-suc, take-append-le, drop-append-le, drop-append-add, drop-drop, get_or-take, get_or-drop, take-length, get_or-append-add, get_or-set_same, get_or-set_other, ext_get_or, set_split}
 use mathlib.Core.List.{List, [], ◌∷◌, ◌++◌, append_assoc, append-nil, tail}
 use mathlib.Core.Logic.{◌≢◌, ⊎_elim}
 use mathlib.Core.Path.{◌≡◌, refl, ap, sym, ◌∙◌}
@@ -14,16 +14,6 @@ use Rattle.card.proofs.Test.{le_or_lt}
 use Rattle.card.specs.Bytes.{part, patch, tabulate, All, pairs, u32_bytes, get_u32, put_u32, words, pad, zeros}
 
 -- ---- what code leaves of a slice, as a part or a patch
-
--- four stores, one after the other
-pub stores4 : (s : List ℕ) (at a b c d : ℕ) → at + 4 ≤ length s
-    → set (set (set (set s at a) (at + 1) b) (at + 2) c) (at + 3) d ≡ patch s at (a ∷ b ∷ c ∷ d ∷ [])
-unfolding patch
-stores4 s at a b c d h =
-    let e1 : at + 1 ≡ suc at = omega arith in
-    let e2 : at + 2 ≡ suc (suc at) = omega arith in
-    let e3 : at + 3 ≡ suc (suc (suc at)) = omega arith in
-    rw (e1, e2, e3) (sets-eq (a ∷ b ∷ c ∷ d ∷ []) s at h ∙ append_assoc (take at s) _ _)
 
 pub store1 : (s : List ℕ) (at a : ℕ) → at < length s → set s at a ≡ patch s at (a ∷ [])
 unfolding patch

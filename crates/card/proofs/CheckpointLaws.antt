@@ -9,6 +9,7 @@ use mathlib.Core.List.{List, [], ◌∷◌}
 use mathlib.Core.Logic.{◌≢◌}
 use mathlib.Core.Path.{◌≡◌, sym, ◌∙◌}
 use native.Mathlib.Omega.{arith}
+use Rattle.std.specs.Prelude.{Err}
 use Rattle.card.proofs.QuestionLaws.{none_asked, asked_yes, asked_no, group_yes, group_no, header_tells, commit_tells, trailer_tells, header_numbered}
 use Rattle.card.proofs.RangeLaws.{geometry_tells}
 use Rattle.card.proofs.Test.{both, joined}
@@ -18,11 +19,12 @@ use Rattle.card.specs.Checkpoint.{Recovered, HeaderPassed}
 use Rattle.card.specs.Directory.{entries_of, read_dir}
 use Rattle.card.specs.Header.{header_on}
 use Rattle.card.specs.Question.{ask, first_no, header_asks, trailer_fits, entries_fit, committed_on, entries_on, generation_asks, card_asks}
+use Rattle.card.specs.Refusal.{number}
 use Rattle.card.specs.Ring.{dir_blocks}
 use Rattle.card.specs.Trailer.{trailer_on}
-use Rattle.card.specs.declared.checkpoint.Checkpoint.{Checkpoint}
 use Rattle.card.specs.declared.directory.Directory.{Directory}
 use Rattle.card.specs.declared.header.Header.{Header}
+use Rattle.card.specs.declared.refusal.Refusal.{Refusal}
 use Rattle.card.specs.declared.trailer.Trailer.{Trailer}
 
 -- what question 3 tells
@@ -41,14 +43,8 @@ whole_is low high k n e l h =
     joined _ _ (eq-eqb (n % 512) 0 (omega arith)) (joined _ _ (le-leb low (n / 512) (omega arith)) (le-leb (n / 512) high (omega arith)))
 
 -- a refusal by the first "no"
-pub refusal_is : {c : List ℕ} {r : Checkpoint} (n : ℕ) → 0 < n → r.refusal ≡ n → first_no (card_asks c) ≡ n → Recovered c r
-refusal_is n h e f = record {
-  number = e ∙ sym f;
-  header_is = λ z. absurd (omega arith);
-  trailer_is = λ z. absurd (omega arith);
-  entries_is = λ z. absurd (omega arith);
-  places_are = λ z. absurd (omega arith);
-}
+pub refusal_is : {c : List ℕ} (r : Refusal) → first_no (card_asks c) ≡ number r → Recovered c (Err r)
+refusal_is r f = record { number = sym f; read = tt }
 
 pub refuse_3 : (c : List ℕ) → whole 11 65536 (length c) ≡ false → first_no (card_asks c) ≡ 3
 unfolding card_asks

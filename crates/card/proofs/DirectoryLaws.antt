@@ -2,7 +2,7 @@
 -- Assumes nothing.
 use Prim.Native.Nat.{ℕ, ◌+◌, ◌-◌, ◌*◌, ◌/◌, ◌%◌, ◌≤◌, ◌<◌, min}
 use lib.ListN.{length, take, drop, get_or, set, replicate, length-take, length-drop}
-use lib.Seq.{take_all, get_or-take, get_or-drop, get_or-set_same, get_or-set_other}
+use lib.Seq.{take_all, length-take-le, get_or-take, get_or-drop, get_or-set_same, get_or-set_other}
 use mathlib.Core.List.{List, [], ◌∷◌, ◌++◌}
 use mathlib.Core.Logic.{◌⊎◌, inl, inr, ⊎_elim}
 use mathlib.Core.Path.{◌≡◌, ap, sym, ◌∙◌}
@@ -14,7 +14,7 @@ use Rattle.card.proofs.BytesLaws.{patch_on, tab_length, tab_more, tab_snoc, tab_
 use Rattle.card.proofs.Test.{le_or_lt}
 use Rattle.card.specs.Block.{block_at}
 use Rattle.card.specs.Bytes.{patch, tabulate, All, pairs, get_u32, words, pad, zeros}
-use Rattle.card.specs.Directory.{entry_in, entries_of, entry_numbers, dir_block, read_entry, entry_on, read_dir}
+use Rattle.card.specs.Directory.{entry_in, entries_of, PlacesBelow, entry_numbers, dir_block, read_entry, entry_on, read_dir}
 use Rattle.card.specs.Ring.{ring_at, dir_blocks}
 use Rattle.card.specs.declared.directory.Entry.{Entry}
 
@@ -63,6 +63,18 @@ front_all area first fs ps count j h =
     taken (inr k) =
         let e : min 64 (count - 64 * j) ≡ count - 64 * j = omega arith in
         rw e (take_all 64 (tabulate (entry_in area first fs ps) (64 * j) (count - 64 * j)) (omega (arith, tab_length (entry_in area first fs ps) (64 * j) (count - 64 * j))))
+
+-- entries that stand in the first n of two arrays, and their places
+pub entries_of_front : (area first : ℕ) (fs ps : List ℕ) (n : ℕ) → n ≤ length fs
+    → entries_of area first (take n fs) (take n ps) (length (take n fs)) ≡ entries_of area first fs ps n
+unfolding entries_of
+entries_of_front area first fs ps n h =
+    let long : length (take n fs) ≡ n = length-take-le n fs h in
+    rw long (tab_same (entry_in area first (take n fs) (take n ps)) (entry_in area first fs ps) 0 n
+    (λ k a b. cc (get_or-take n fs k 0 (omega arith), get_or-take n ps k 0 (omega arith))))
+
+pub places_front : (p n : ℕ) (ps : List ℕ) → n ≤ length ps → PlacesBelow p n ps → PlacesBelow p (length (take n ps)) (take n ps)
+places_front p n ps h below i l = let k : i < n = omega (arith, length-take-le n ps h) in rw (get_or-take n ps i 0 k) (below i k)
 
 -- ---- that it is read back
 

@@ -1,8 +1,8 @@
 -- The header: its length, how it is put, and that it is read back.
 -- Assumes nothing.
-use Prim.Native.Nat.{ℕ, zero, suc, ◌+◌, ◌*◌, ◌≤◌, ◌<◌}
-use lib.ListN.{length, take, drop, get_or, length-take}
-use lib.Seq.{drop-cons}
+use Prim.Native.Nat.{ℕ, zero, suc, ◌+◌, ◌*◌, ◌/◌, ◌%◌, ◌≤◌, ◌<◌}
+use lib.ListN.{length, take, drop, get_or}
+use lib.Seq.{drop-cons, take_all}
 use mathlib.Core.List.{List, [], ◌∷◌, ◌++◌}
 use mathlib.Core.Path.{◌≡◌, refl, ap, sym, ◌∙◌}
 use native.Mathlib.Nat.{zero-add}
@@ -43,16 +43,17 @@ numbers_of ns n h = numbers_from ns 0 n (omega arith)
 -- ---- how it is put
 
 module _ (commit trailer area : ℕ) where
-  pub header_put : (ns : List ℕ) (n : ℕ) → 2 * n ≤ length ns → n ≤ 8
-      → patch (patch zeros 0 (words (1 ∷ commit ∷ trailer ∷ area ∷ n ∷ []))) 20 (words (take (2 * n) ns)) ≡ header_block commit trailer area (ranges_of ns n)
+  pub header_put : (ns : List ℕ) → length ns % 2 ≡ 0 → length ns ≤ 16
+      → patch (patch zeros 0 (words (1 ∷ commit ∷ trailer ∷ area ∷ length ns / 2 ∷ []))) 20 (words ns) ≡ header_block commit trailer area (ranges_of ns (length ns / 2))
   unfolding header_block
-  header_put ns n h k =
+  header_put ns h k =
+      let n = length ns / 2 in
       let fixed : List ℕ = 1 ∷ commit ∷ trailer ∷ area ∷ n ∷ [] in
-      let long : length (words (take (2 * n) ns)) ≡ 4 * (2 * n) = words-length (take (2 * n) ns) ∙ simp length-take (omega arith) in
-      patch_on zeros (words fixed) (words (take (2 * n) ns)) 20 (words-length fixed) (omega (arith, zeros-length))
-      ∙ zeros-patch (words fixed ++ words (take (2 * n) ns))
-      ∙ ap pad (sym (words_append fixed (take (2 * n) ns)))
-      ∙ rw (ranges_length, numbers_of ns n h)
+      let all : take (2 * n) ns ≡ ns = take_all (2 * n) ns (omega arith) in
+      patch_on zeros (words fixed) (words ns) 20 (words-length fixed) (omega (arith, words-length ns, zeros-length))
+      ∙ zeros-patch (words fixed ++ words ns)
+      ∙ ap pad (sym (words_append fixed ns))
+      ∙ rw (ranges_length, numbers_of ns n (omega arith), all)
 
   pub header_length : (rs : List Range) → length rs ≤ 8 → length (header_block commit trailer area rs) ≡ 512
   unfolding header_block

@@ -5,12 +5,14 @@ pub mod AllLaws
 pub mod BlockLaws
 pub mod RingLaws
 pub mod RangeLaws
+pub mod PairLaws
 pub mod AddressLaws
 pub mod LookupLaws
 pub mod PotLaws
 pub mod HeaderLaws
 pub mod TrailerLaws
 pub mod DirectoryLaws
+pub mod RefusalLaws
 pub mod QuestionLaws
 pub mod CheckpointLaws
 pub mod LaneTable

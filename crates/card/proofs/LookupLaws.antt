@@ -12,10 +12,8 @@ use native.Mathlib.Omega.{arith}
 use Rattle.card.proofs.RangeLaws.{below_here, below_later, below_none, above_here, above_later, above_none, missing_gap, missing_below, missing_above, RangesRise, geometry_tells}
 use Rattle.card.proofs.Test.{both}
 use Rattle.card.specs.Bytes.{All}
-use Rattle.card.specs.Range.{Range, range_blocks, geometry_fits, address_in, some_below, some_above, missing, locate_or, locate, last_end}
+use Rattle.card.specs.Range.{Range, range_blocks, geometry_fits, address_in, some_below, some_above, missing, locate_or, locate, last_end, Lookup, Located, Gap, Outside}
 use Rattle.card.specs.declared.range.Address.{Address}
-use Rattle.card.specs.declared.range.Lookup.{Lookup}
-use Rattle.card.specs.declared.range.Lookup.TheVariants.{Located, Gap, Outside}
 
 -- ---- the claims
 

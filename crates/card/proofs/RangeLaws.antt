@@ -1,20 +1,19 @@
 -- Laws of ranges: loops over them, and question 5 both ways.
 -- Assumes nothing.
-use Prim.Native.Nat.{ℕ, ◌+◌, ◌-◌, ◌*◌, ◌≤◌, ◌<◌}
+use Prim.Native.Nat.{ℕ, suc, ◌+◌, ◌-◌, ◌*◌, ◌/◌, ◌≤◌, ◌<◌}
 use borrow.Author.Tests.{leb-true, le-leb, lt-leb, lt-ltb, le-ltb, eqb-true, eq-eqb}
 use lib.Dec.{leb, ltb, eqb}
-use lib.ListN.{length, get_or}
+use lib.ListN.{length, take, get_or}
+use lib.Seq.{length-take-le, get_or-take}
 use mathlib.Core.Bool.{Bool, true, false, ◌&&◌, and-false}
-use mathlib.Core.List.{List, [], ◌∷◌}
-use mathlib.Core.Path.{◌≡◌, refl, ◌∙◌}
+use mathlib.Core.List.{List, [], ◌∷◌, ◌++◌}
+use mathlib.Core.Path.{◌≡◌, refl, ap, ◌∙◌}
 use native.Mathlib.Omega.{arith}
-use Rattle.card.proofs.BytesLaws.{tab_more}
+use Rattle.card.proofs.BytesLaws.{tab_more, tab_same, tab_shift, tab_length}
 use Rattle.card.proofs.HeaderLaws.{FitsRange}
 use Rattle.card.proofs.Test.{both, joined}
 use Rattle.card.specs.Bytes.{tabulate, All}
-use Rattle.card.specs.Range.{Range, range_in, range_blocks, ranges_fill, geometry_fits, address_in, some_below, some_above, missing, locate_or, all_blocks}
-use Rattle.card.specs.declared.range.Lookup.{Lookup}
-use Rattle.card.specs.declared.range.Lookup.TheVariants.{Located, Gap, Outside}
+use Rattle.card.specs.Range.{Range, range_in, ranges_of, range_blocks, ranges_fill, geometry_fits, address_in, some_below, some_above, missing, locate_or, all_blocks, Lookup, Located, Gap, Outside}
 
 -- ---- one range of question 5 after the other
 
@@ -22,6 +21,48 @@ use Rattle.card.specs.declared.range.Lookup.TheVariants.{Located, Gap, Outside}
 pub range_next : (ns : List ℕ) (i n oid pages : ℕ) → i < n → oid ≡ get_or ns (2 * i) 0 → pages ≡ get_or ns (2 * i + 1) 0
     → tabulate (range_in ns) i (n - i) ≡ record { oid = oid; pages = pages } ∷ tabulate (range_in ns) (i + 1) (n - (i + 1))
 range_next ns i n oid pages h p q = rw (p, q) (tab_more (range_in ns) i n h)
+
+-- the first n ranges stand in the first 2 × n numbers
+pub ranges_of_take : (ns : List ℕ) (m n : ℕ) → 2 * n ≤ m → ranges_of (take m ns) n ≡ ranges_of ns n
+unfolding ranges_of
+ranges_of_take ns m n h =
+    tab_same (range_in (take m ns)) (range_in ns) 0 n (λ k a b. cc (get_or-take m ns (2 * k) 0 (omega arith), get_or-take m ns (2 * k + 1) 0 (omega arith)))
+
+-- as many as a slice of the first 2 × n numbers has
+pub ranges_of_front : (ns : List ℕ) (n : ℕ) → 2 * n ≤ length ns → ranges_of (take (2 * n) ns) (length (take (2 * n) ns) / 2) ≡ ranges_of ns n
+ranges_of_front ns n h =
+    let long : length (take (2 * n) ns) / 2 ≡ n = omega (arith, length-take-le (2 * n) ns h) in
+    rw long (ranges_of_take ns (2 * n) n (omega arith))
+
+-- more than 8 are refused
+pub geometry_many : (blocks area : ℕ) (ns : List ℕ) (n : ℕ) → 8 < n → geometry_fits blocks area (ranges_of ns n) ≡ false
+unfolding geometry_fits ranges_of
+geometry_many blocks area ns n h =
+    let no : leb (length (tabulate (range_in ns) 0 n)) 8 ≡ false = rw (tab_length (range_in ns) 0 n) (lt-leb n 8 h) in
+    rw (no, and-false (leb 1 (length (tabulate (range_in ns) 0 n))), and-false (leb area 512), and-false (leb 8 area)) refl
+
+-- one turn of a loop over pairs of numbers, and its end
+behind_pair : (a b : ℕ) (t : List ℕ) (k : ℕ) → range_in (a ∷ b ∷ t) (1 + k) ≡ range_in t (0 + k)
+behind_pair a b t k =
+    let e : 2 * (1 + k) ≡ suc (suc (2 * (0 + k))) = omega arith in
+    let f : 2 * (1 + k) + 1 ≡ suc (suc (2 * (0 + k) + 1)) = omega arith in
+    rw (f, e)
+
+pair_first : (a b : ℕ) (t : List ℕ) → ranges_of (a ∷ b ∷ t) (length (a ∷ b ∷ t) / 2) ≡ record { oid = a; pages = b } ∷ ranges_of t (length t / 2)
+unfolding ranges_of tabulate
+pair_first a b t =
+    let half : length (a ∷ b ∷ t) / 2 ≡ suc (length t / 2) = omega arith in
+    rw half (ap (λ (l : List Range). record { oid = a; pages = b } ∷ l) (tab_shift (range_in (a ∷ b ∷ t)) (range_in t) 1 0 (length t / 2) (λ k l. behind_pair a b t k)))
+
+pub pair_next : (ns p t : List ℕ) → ns ≡ p ++ t → length p ≡ 2 → ranges_of ns (length ns / 2) ≡ record { oid = get_or p 0 0; pages = get_or p 1 0 } ∷ ranges_of t (length t / 2)
+pair_next ns [] t e h = absurd (omega (arith, h))
+pair_next ns (a ∷ []) t e h = absurd (omega (arith, h))
+pair_next ns (a ∷ b ∷ []) t e h = rw e (pair_first a b t)
+pair_next ns (a ∷ b ∷ c ∷ p) t e h = absurd (omega (arith, h))
+
+pub pair_end : (ns : List ℕ) → length ns < 2 → ranges_of ns (length ns / 2) ≡ []
+unfolding ranges_of tabulate
+pair_end ns h = let none : length ns / 2 ≡ 0 = omega arith in rw none
 
 module _ (low at blocks : ℕ) (r : Range) (rs l : List Range) (e : l ≡ r ∷ rs) where
   keeps : Bool

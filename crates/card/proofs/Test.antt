@@ -2,13 +2,12 @@
 -- Assumes nothing.
 
 use Prim.Native.Nat.{ℕ, zero, suc, ◌+◌, ◌-◌, ◌≤◌, ◌<◌, zero-le, suc-le-suc}
-use borrow.Author.Tests.{eqb-true, not-true, not-false}
+use borrow.Author.Tests.{eqb-true}
 use lib.Dec.{eqb}
-use mathlib.Core.Bool.{Bool, true, false, cond, ◌&&◌, ◌||◌, false≢true, not, and-true, and-false}
+use mathlib.Core.Bool.{Bool, true, false, cond, ◌&&◌, ◌||◌, false≢true, and-true, and-false}
 use mathlib.Core.Logic.{◌≢◌, ◌⊎◌, inl, inr, ⊎_elim}
 use mathlib.Core.Path.{◌≡◌, refl, sym, ◌∙◌}
 use native.Mathlib.Nat.{eq-or-lt_of_le}
-use native.Mathlib.Numerals.{add-one}
 use native.Mathlib.Omega.{arith}
 use Rattle.card.specs.Bytes.{each}
 
@@ -35,14 +34,6 @@ and_swap : (a b c d : Bool) → (a && b) && (c && d) ≡ (a && c) && (b && d)
 and_swap true true c d = refl
 and_swap true false c d = sym (and-false c)
 and_swap false b c d = refl
-
--- what code's `!` of a test tells of its definition
-module _ {q r : Bool} (e : r ≡ q) where
-  pub said_no : not r ≡ true → q ≡ false
-  said_no h = sym e ∙ not-true r h
-
-  pub said_yes : not r ≡ false → q ≡ true
-  said_yes h = sym e ∙ not-false r h
 
 -- two tests of f against different numbers change places
 pub tests_swap : {A : Type 0} (f g h : ℕ) (x y z : A) → g ≢ h → cond (eqb f g) x (cond (eqb f h) y z) ≡ cond (eqb f h) y (cond (eqb f g) x z)
@@ -87,28 +78,13 @@ unfolding each
 each_all t i zero h = refl
 each_all t i (suc n) h = joined (t i) _ (h i (omega arith) (omega arith)) (each_all t (suc i) n (λ k a b. h k (omega arith) (omega arith)))
 
--- two tests at once
-pub each_both : (s t : ℕ → Bool) (i n : ℕ) → each (λ k. s k && t k) i n ≡ each s i n && each t i n
-unfolding each
-each_both s t i zero = refl
-each_both s t i (suc n) = rw (each_both s t (suc i) n) (and_swap (s i) (t i) (each s (suc i) n) (each t (suc i) n))
-
--- a loop that asks on after a "no": its start, its turns and its end, where `all` is the answer so far
-pub each_start : (t : ℕ → Bool) (n : ℕ) → each t 0 (n - 0) ≡ each t 0 n
-each_start t n = let e : n - 0 ≡ n = omega arith in rw e
-
+-- a loop that asks on after a "no": a "no", and its end, where `all` is the answer so far
 module _ (t : ℕ → Bool) (i n : ℕ) (all : Bool) {whole : Bool} (inv : all && each t i (n - i) ≡ whole) where
   pub each_no : {next : Bool} → i < n → t i ≡ false → next ≡ false → next && each t (i + 1) (n - (i + 1)) ≡ whole
   unfolding each
   each_no h q e =
       let m : n - i ≡ suc (n - suc i) = omega arith in
       rw e (sym (and-false all) ∙ (rw (m, each, q) at inv))
-
-  pub each_yes : {next : Bool} → i < n → t i ≡ true → next ≡ all → next && each t (i + 1) (n - (i + 1)) ≡ whole
-  unfolding each
-  each_yes h q e =
-      let m : n - i ≡ suc (n - suc i) = omega arith in
-      rw (e, add-one) (rw (m, each, q) at inv)
 
   pub each_end : n ≤ i → all ≡ whole
   unfolding each

@@ -9,9 +9,8 @@ use Rattle.card.specs.Bytes.{pairs, patch, u32_bytes, words, pad}
 use Rattle.card.specs.Directory.{dir_block}
 use Rattle.card.specs.Header.{header_block}
 use Rattle.card.specs.Pot.{put_count, put_flags, fresh_entries, fresh_pot}
-use Rattle.card.specs.Range.{Range, some_below, some_above, missing, locate_or, locate}
+use Rattle.card.specs.Range.{Range, some_below, some_above, missing, locate_or, locate, Located, Gap, Outside}
 use Rattle.card.specs.Trailer.{trailer_block}
-use Rattle.card.specs.declared.range.Lookup.TheVariants.{Located, Gap, Outside}
 
 -- layout 1, commit 258, trailer block 4, A 8, one range: OID 100, 3 pages
 pub header_bytes : header_block 258 4 8 (record { oid = 100; pages = 3 } ∷ [])

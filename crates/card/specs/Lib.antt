@@ -7,5 +7,6 @@ pub mod Pot
 pub mod Header
 pub mod Directory
 pub mod Trailer
+pub mod Refusal
 pub mod Question
 pub mod Checkpoint

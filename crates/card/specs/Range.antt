@@ -6,11 +6,11 @@
 --   103                pot of pages 102 to 203
 --   ..
 -- Assumes nothing.
-use Rattle.std.specs.Prelude.{Bool, false, cond, ◌&&◌, ◌||◌, List, [], ◌∷◌, ◌++◌, ℕ, ◌+◌, ◌-◌, ◌*◌, ◌/◌, ◌%◌, ltb, leb, eqb, length, get_or}
+use Rattle.std.specs.Prelude.{Bool, false, cond, ◌&&◌, ◌||◌, List, [], ◌∷◌, ◌++◌, ℕ, ◌+◌, ◌-◌, ◌*◌, ◌/◌, ◌%◌, ltb, leb, eqb, length, get_or, Result, Ok, Err}
 use Rattle.card.specs.Bytes.{tabulate}
 use Rattle.card.specs.declared.range.Address.{Address}
-use Rattle.card.specs.declared.range.Lookup.{Lookup}
-use Rattle.card.specs.declared.range.Lookup.TheVariants.{Located, Gap, Outside}
+use Rattle.card.specs.declared.refusal.Refusal.{Refusal}
+use Rattle.card.specs.declared.refusal.Refusal.TheVariants as refusals
 
 -- a range: its first OID and its n pages
 pub record Range : Type 0 where
@@ -45,6 +45,11 @@ geometry_fits blocks area rs = leb 8 area && (leb area 512 && (leb 1 (length rs)
 abbrev pub address_in : ℕ → ℕ → Address
 address_in start r = record { page = start + r + r / 102 + 1; pot = start + 103 * (r / 102); entry = r % 102 }
 
+-- what is at an OID: a page; a gap between two ranges; nothing, below the first range or above the last
+pub data Lookup : Type 0 where
+  Located : Address → Lookup
+  Gap Outside : Lookup
+
 -- does a range end at or below an OID, and does one begin above it?
 unfoldable pub some_below : List Range → ℕ → Bool
 some_below [] oid = false
@@ -65,6 +70,12 @@ locate_or none (r ∷ rs) start oid = cond (leb r.oid oid && ltb oid (r.oid + r.
 
 unfoldable pub locate : List Range → ℕ → ℕ → Lookup
 locate rs start oid = locate_or (missing rs oid) rs start oid
+
+-- what the code answers of it
+abbrev pub place_or : Lookup → Result Address Refusal
+place_or (Located p) = Ok p
+place_or Gap = Err refusals.Gap
+place_or Outside = Err refusals.Outside
 
 -- the OID behind the last range
 abbrev pub last_end : Range → List Range → ℕ

@@ -7,4 +7,5 @@ pub mod checkpoint;
 pub mod directory;
 pub mod header;
 pub mod range;
+pub mod refusal;
 pub mod trailer;

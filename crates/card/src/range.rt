@@ -8,11 +8,3 @@ pub struct Address {
     pub pot: usize,
     pub entry: usize,
 }
-
-// What is at an OID: a page; a gap between two ranges; nothing, below the first range or above the last.
-#[derive(Clone, Copy)]
-pub enum Lookup {
-    Located(Address),
-    Gap,
-    Outside,
-}

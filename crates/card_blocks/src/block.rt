@@ -4,70 +4,43 @@ ghost use Rattle.card.specs.Bytes.{zeros};
 ghost use Rattle.card.specs.Block.{block_at, put_block, whole};
 
 // An empty frame.
+#[tactic(auto, unfolding(card::specs::Bytes::zeros))]
 pub fn empty() -> [u8; 512]
     ensures { result ≡ zeros }
 {
-    [0u8; 512]
+    [0; 512]
 }
 
 // Is a length that of whole blocks, low to high of them?
+#[tactic(auto, unfolding(card::specs::Block::whole))]
 pub fn is_whole(low: usize, high: usize, len: usize) -> bool
     ensures { result ≡ whole low high len }
 {
-    if len % 512 != 0 {
-        return false;
-    }
-    let n = len / 512;
-    if n < low {
-        return false;
-    }
-    n <= high
+    len % 512 == 0 && low <= len / 512 && len / 512 <= high
 }
 
-// Block n, for reading.
-pub fn at(card: &[u8], n: usize) -> &[u8]
+// Block n, for reading: a part that starts inside the card.
+pub fn at(card: &[u8], n: usize) -> &[u8; 512]
     requires { 512 * n + 512 ≤ length card.now }
-    ensures { (result.now ≡ block_at card.now n) × (length result.now ≡ 512) }
+    ensures { result.now ≡ block_at card.now n }
 {
-    let a = 512 * n;
-    let e = a + 512;
-    &card[a..e]
+    card[512 * n..512 * n + 512].try_into().unwrap()
 }
 
 // Writes block n: it is lent as a mutable part.
-pub fn put(card: &mut [u8], n: usize, bytes: &[u8])
-    requires { (512 * n + 512 ≤ length card.old) × (length bytes.now ≡ 512) }
+pub fn put(card: &mut [u8], n: usize, bytes: &[u8; 512])
+    requires { 512 * n + 512 ≤ length card.old }
     ensures { card.new ≡ put_block card.old n bytes.now }
 {
-    let start = 512 * n;
-    let end = start + 512;
-    card[start..end].copy_from_slice(bytes);
-}
-
-// Copies a block into a buffer.
-pub fn get(card: &[u8], n: usize, buffer: &mut [u8])
-    requires { (512 * n + 512 ≤ length card.now) × (length buffer.old ≡ 512) }
-    ensures { buffer.new ≡ block_at card.now n }
-{
-    buffer.copy_from_slice(at(card, n));
+    card[512 * n..512 * n + 512].copy_from_slice(bytes);
 }
 
 // Copies one block of the card to another.
 pub fn copy(card: &mut [u8], from: usize, to: usize)
-    requires { (512 * from + 512 ≤ length card.old) × (512 * to + 512 ≤ length card.old) }
+    requires from { 512 * from + 512 ≤ length card.old }
+    requires to { 512 * to + 512 ≤ length card.old }
     ensures { card.new ≡ put_block card.old to (block_at card.old from) }
 {
-    let mut bytes = empty();
-    get(card, from, &mut bytes);
+    let bytes = *at(card, from);
     put(card, to, &bytes);
-}
-
-// A block's bytes as an array of their own.
-pub fn array(bytes: &[u8]) -> [u8; 512]
-    requires { length bytes.now ≡ 512 }
-    ensures { result ≡ bytes.now }
-{
-    let mut r = empty();
-    r.copy_from_slice(bytes);
-    r
 }

@@ -5,71 +5,65 @@ ghost use Rattle.card.specs.Question.{ends_at, trailer_fits};
 
 use card::header::Header;
 use card::trailer::Trailer;
+use card_blocks::ring::Ring;
 use card_blocks::{block, number, ring};
 
-pub fn block(t: Trailer) -> [u8; 512]
-    requires { (t.first < 4294967296) × ((t.pages < 4294967296) × (t.entries < 4294967296)) }
-    ensures { result ≡ trailer_block t }
+#[tactic(auto, using(card::proofs::TrailerLaws::trailer_put))]
+pub fn block(t: &Trailer) -> [u8; 512]
+    requires first { t.now.first < 4294967296 }
+    requires pages { t.now.pages < 4294967296 }
+    requires entries { t.now.entries < 4294967296 }
+    ensures { result ≡ trailer_block t.now }
 {
-    let first = number::narrow(t.first);
-    let pages = number::narrow(t.pages);
-    let entries = number::narrow(t.entries);
-    let numbers = [t.commit, first, pages, entries];
+    let numbers = [t.commit, t.first as u32, t.pages as u32, t.entries as u32];
     let mut bytes = block::empty();
-    number::put_words(&mut bytes, 496, &numbers, 4);
+    number::put_words(&mut bytes, 496, &numbers);
     bytes
 }
 
-pub fn read(bytes: &[u8]) -> Trailer
-    requires { length bytes.now ≡ 512 }
+#[tactic(auto, unfolding(card::specs::Trailer::trailer_on))]
+pub fn read(bytes: &[u8; 512]) -> Trailer
     ensures { result ≡ trailer_on bytes.now }
 {
-    let commit = number::get_u32(bytes, 496);
-    let first = number::wide(number::get_u32(bytes, 500));
-    let pages = number::wide(number::get_u32(bytes, 504));
-    let entries = number::wide(number::get_u32(bytes, 508));
     Trailer {
-        commit: commit,
-        first: first,
-        pages: pages,
-        entries: entries,
+        commit: number::get_u32(bytes, 496),
+        first: number::get_u32(bytes, 500) as usize,
+        pages: number::get_u32(bytes, 504) as usize,
+        entries: number::get_u32(bytes, 508) as usize,
     }
 }
 
 // Is the size of a generation of p and e at most H, and n its last block?
-fn ends_at(area: usize, first: usize, p: usize, e: usize, n: usize) -> bool
-    requires { (area ≤ 512) × ((first ≤ area) × ((1 ≤ e) × (e ≤ p))) }
-    ensures { result ≡ ends_at area first p e n }
+#[tactic(auto, using(card::proofs::RingLaws::size_above), unfolding(card::specs::Question::ends_at))]
+fn ends_at(ring: Ring, p: usize, e: usize, n: usize) -> bool
+    requires some { 1 ≤ e }
+    requires few { e ≤ p }
+    ensures { result ≡ ends_at ring.area ring.first p e n }
 {
-    if area / 2 < p {
+    // A size is told of 32-bit numbers alone, as p and e are within half the area.
+    if ring.area / 2 < p {
         return false;
     }
     let size = ring::size(p, e);
-    if area / 2 < size {
-        return false;
-    }
-    ring::at(area, first, size - 1) == n
+    size <= ring.area / 2 && ring.at(size - 1) == n
 }
 
 // Question 7, of the trailer that a header names.
-pub fn fits(h: Header, t: Trailer) -> bool
-    requires { h.area ≤ 512 }
-    ensures { result ≡ trailer_fits h t }
+#[tactic(auto, unfolding(card::specs::Question::trailer_fits))]
+pub fn fits(h: &Header, t: &Trailer) -> bool
+    requires { h.now.area ≤ 512 }
+    ensures { result ≡ trailer_fits h.now t.now }
 {
-    if t.commit != h.commit {
-        return false;
-    }
-    if t.first < 1 {
-        return false;
-    }
-    if h.area < t.first {
-        return false;
-    }
-    if t.entries < 1 {
-        return false;
-    }
-    if t.pages < t.entries {
-        return false;
-    }
-    ends_at(h.area, t.first, t.pages, t.entries, h.trailer)
+    t.commit == h.commit
+        && (1..=h.area).contains(&t.first)
+        && (1..=t.pages).contains(&t.entries)
+        && ends_at(
+            Ring {
+                area: h.area,
+                first: t.first,
+            },
+            t.pages,
+            t.entries,
+            h.trailer,
+        )
 }

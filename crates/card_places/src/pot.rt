@@ -12,34 +12,35 @@ fn entry_at(i: usize) -> usize
     5 * i
 }
 
-pub fn count_at(pot: &[u8], i: usize) -> u32
-    requires { (length pot.now ≡ 512) × (i < 102) }
+#[tactic(auto, unfolding(card::specs::Pot::count_at))]
+pub fn count_at(pot: &[u8; 512], i: usize) -> u32
+    requires { i < 102 }
     ensures { result ≡ count_at pot.now i }
 {
     number::get_u32(pot, entry_at(i))
 }
 
-pub fn flags_at(pot: &[u8], i: usize) -> u8
-    requires { (length pot.now ≡ 512) × (i < 102) }
+#[tactic(auto, unfolding(card::specs::Pot::flags_at))]
+pub fn flags_at(pot: &[u8; 512], i: usize) -> u8
+    requires { i < 102 }
     ensures { result ≡ flags_at pot.now i }
 {
-    let at = entry_at(i);
-    pot[at + 4]
+    pot[entry_at(i) + 4]
 }
 
-pub fn put_count(pot: &mut [u8], i: usize, n: u32)
-    requires { (length pot.old ≡ 512) × (i < 102) }
+#[tactic(auto, unfolding(card::specs::Pot::put_count))]
+pub fn put_count(pot: &mut [u8; 512], i: usize, n: u32)
+    requires { i < 102 }
     ensures { pot.new ≡ put_count pot.old i n }
 {
     number::put_u32(pot, entry_at(i), n);
 }
 
-pub fn put_flags(pot: &mut [u8], i: usize, flags: u8)
-    requires { (length pot.old ≡ 512) × (i < 102) }
+pub fn put_flags(pot: &mut [u8; 512], i: usize, flags: u8)
+    requires { i < 102 }
     ensures { pot.new ≡ put_flags pot.old i flags }
 {
-    let at = entry_at(i);
-    pot[at + 4] = flags;
+    pot[entry_at(i) + 4] = flags;
 }
 
 // Do the flags say that the page is all zeros?
@@ -66,10 +67,8 @@ pub fn fresh() -> [u8; 512]
     ensures { result ≡ fresh_pot }
 {
     let mut pot = block::empty();
-    let mut i = 0;
-    while i < 102 {
+    for i in 0..102 {
         put_flags(&mut pot, i, 1);
-        i += 1;
     }
     pot
 }

@@ -10,13 +10,11 @@ use mathlib.Core.Logic.{◌≢◌}
 use mathlib.Core.Path.{◌≡◌, refl, ap, sym, ◌∙◌}
 use native.Mathlib.Omega.{arith}
 use Rattle.card.proofs.QuestionLaws.{none_asked, asked_yes, asked_no}
-use Rattle.card.specs.Block.{whole}
-use Rattle.card.specs.Question.{first_no, card_asks}
+use Rattle.card.specs.Question.{first_no}
 use Rattle.frames.proofs.KeepLaws.{kept_done, kept_refused, numbered-done, refused_by}
 use Rattle.frames.proofs.ReadyLaws.{common_passed, common_refused}
 use Rattle.frames.specs.Promise.{lent, common_asks, start, snapshot, page_out, refused, wrote, asks, done_answer, done_write, after, FrameKept, numbered}
 use Rattle.frames.specs.Parts.{WriteDone, StepDone, Started}
-use Rattle.frames.specs.declared.answer.Wrote.{Wrote}
 use Rattle.record.proofs.SoundLaws.{notes_length, queue_length}
 use Rattle.record.specs.Meaning.{waits, notes_of, queue_of, phase_of, state_of, zero_store}
 use Rattle.record.specs.declared.store.Store.{Store}
@@ -63,25 +61,25 @@ module _ (s : Store) (m c : List ℕ) where
       yes h = asked ∙ (unfold page_out_asks in (asked_yes 28 _ _ none_owed ∙ asked_yes 19 _ [] (lt-ltb 0 (length (queue_of s m 0 (waits s.pending)) + length (queue_of s m (waits s.pending) (waits s.current))) (omega (arith, waiting, behind, h))) ∙ none_asked))
 
       -- done: the block and the state are page-out's
-      out_done : (r : Wrote) (card' : List ℕ) → 0 < waits s.pending + waits s.current → WriteDone (page_out_write (state_of s m)) (after_page_out (state_of s m)) m c r card'
-          → FrameKept page_out (lent s m c) (wrote page r.block) (lent r.store m card')
+      out_done : (b : ℕ) (t : Store) (card' : List ℕ) → 0 < waits s.pending + waits s.current → WriteDone (page_out_write (state_of s m)) (after_page_out (state_of s m)) m c b t card'
+          → FrameKept page_out (lent s m c) (wrote page b) (lent t m card')
       unfolding done_answer done_write after
-      out_done r card' h w = kept_done page_out (lent s m c) (lent r.store m card') (wrote page r.block) (yes h) (ap (wrote page) w.block_is) w.card_is w.meaning w.together refl
+      out_done b t card' h w = kept_done page_out (lent s m c) (lent t m card') (wrote page b) (yes h) (ap (wrote page) w.block_is) w.card_is w.meaning w.together refl
 
-      pub page_out_pending : (r : Wrote) (card' : List ℕ) → s.pending.down < s.pending.taken
-          → WriteDone (out_write s.geometry.area (state_of s m).pending) (pending_to (out_of (state_of s m).pending) s.tail (state_of s m)) m c r card'
-          → FrameKept page_out (lent s m c) (wrote page r.block) (lent r.store m card')
-      page_out_pending r card' p w = out_done r card' (omega arith) (due (lt-ltb 0 (length (queue_of s m 0 (waits s.pending))) (omega (arith, waiting, p))))
+      pub page_out_pending : (b : ℕ) (t : Store) (card' : List ℕ) → s.pending.down < s.pending.taken
+          → WriteDone (out_write s.geometry.area (state_of s m).pending) (pending_to (out_of (state_of s m).pending) s.tail (state_of s m)) m c b t card'
+          → FrameKept page_out (lent s m c) (wrote page b) (lent t m card')
+      page_out_pending b t card' p w = out_done b t card' (omega arith) (due (lt-ltb 0 (length (queue_of s m 0 (waits s.pending))) (omega (arith, waiting, p))))
         where
-          due : ltb 0 (length (queue_of s m 0 (waits s.pending))) ≡ true → WriteDone (page_out_write (state_of s m)) (after_page_out (state_of s m)) m c r card'
+          due : ltb 0 (length (queue_of s m 0 (waits s.pending))) ≡ true → WriteDone (page_out_write (state_of s m)) (after_page_out (state_of s m)) m c b t card'
           due t = unfold page_out_write after_page_out in (rw t w)
 
-      pub page_out_current : (r : Wrote) (card' : List ℕ) → s.pending.taken ≤ s.pending.down → s.current.down < s.current.taken
-          → WriteDone (out_write s.geometry.area (state_of s m).current) (current_to (out_of (state_of s m).current) (state_of s m)) m c r card'
-          → FrameKept page_out (lent s m c) (wrote page r.block) (lent r.store m card')
-      page_out_current r card' p q w = out_done r card' (omega arith) (due (le-ltb 0 (length (queue_of s m 0 (waits s.pending))) (omega (arith, waiting, p))))
+      pub page_out_current : (b : ℕ) (t : Store) (card' : List ℕ) → s.pending.taken ≤ s.pending.down → s.current.down < s.current.taken
+          → WriteDone (out_write s.geometry.area (state_of s m).current) (current_to (out_of (state_of s m).current) (state_of s m)) m c b t card'
+          → FrameKept page_out (lent s m c) (wrote page b) (lent t m card')
+      page_out_current b t card' p q w = out_done b t card' (omega arith) (due (le-ltb 0 (length (queue_of s m 0 (waits s.pending))) (omega (arith, waiting, p))))
         where
-          due : ltb 0 (length (queue_of s m 0 (waits s.pending))) ≡ false → WriteDone (page_out_write (state_of s m)) (after_page_out (state_of s m)) m c r card'
+          due : ltb 0 (length (queue_of s m 0 (waits s.pending))) ≡ false → WriteDone (page_out_write (state_of s m)) (after_page_out (state_of s m)) m c b t card'
           due t = unfold page_out_write after_page_out in (rw t w)
 
 -- ---- snapshot
@@ -137,16 +135,9 @@ module _ (s : Store) (m c : List ℕ) where
 -- ---- start
 
 module _ (m c : List ℕ) where
-  pub start_1 : whole 4 64 (length m) ≡ false → FrameKept (start m) (lent zero_store m c) (numbered 1) (lent zero_store m c)
-  start_1 e = refused_by (start m) (lent zero_store m c) 1 (unfold asks start_asks in (asked_no 1 _ (card_asks c) e)) (λ q. omega (arith, q))
+  pub start_refused : (n : ℕ) → n ≡ first_no (start_asks m c) → n ≢ 0 → FrameKept (start m) (lent zero_store m c) (numbered n) (lent zero_store m c)
+  start_refused n e z = refused_by (start m) (lent zero_store m c) n (unfold asks in (sym e)) z
 
-  module _ (memory : whole 4 64 (length m) ≡ true) where
-    of_card : first_no (asks (start m) (lent zero_store m c)) ≡ first_no (card_asks c)
-    of_card = unfold asks start_asks in (asked_yes 1 _ (card_asks c) memory)
-
-    pub start_refused : (n : ℕ) → n ≡ first_no (card_asks c) → n ≢ 0 → FrameKept (start m) (lent zero_store m c) (numbered n) (lent zero_store m c)
-    start_refused n e z = refused_by (start m) (lent zero_store m c) n (of_card ∙ sym e) z
-
-    pub start_done : (t : Store) → first_no (card_asks c) ≡ 0 → Started m c t → FrameKept (start m) (lent zero_store m c) (numbered 0) (lent t m c)
-    unfolding done_answer done_write after
-    start_done t e d = kept_done (start m) (lent zero_store m c) (lent t m c) (numbered 0) (of_card ∙ e) numbered-done refl d.meaning d.together refl
+  pub start_done : (t : Store) → 0 ≡ first_no (start_asks m c) → Started m c t → FrameKept (start m) (lent zero_store m c) (numbered 0) (lent t m c)
+  unfolding done_answer done_write after
+  start_done t e d = kept_done (start m) (lent zero_store m c) (lent t m c) (numbered 0) (unfold asks in (sym e)) numbered-done refl d.meaning d.together refl

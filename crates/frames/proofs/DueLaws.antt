@@ -19,7 +19,6 @@ use Rattle.frames.proofs.KeepLaws.{kept_refused, kept_done, done_tells}
 use Rattle.frames.proofs.ReadyLaws.{common_passed, ready}
 use Rattle.frames.specs.Promise.{lent, common_asks, advance, refused, wrote, asks, advance_answer, advance_write, advanced, done_answer, done_write, after, FrameKept, passing, FrameAnswer}
 use Rattle.frames.specs.Parts.{WriteDone, StepDone}
-use Rattle.frames.specs.declared.answer.Wrote.{Wrote}
 use Rattle.record.proofs.Held.{Held}
 use Rattle.record.proofs.SoundLaws.{notes_length, queue_length, phase_owed}
 use Rattle.record.specs.Holds.{holds_together}
@@ -36,22 +35,22 @@ module _ (s : Store) (m c : List ℕ) where
     unfolding asks
     own = common_passed s (length m) (length c) (advance_asks (state_of s m)) passed
 
-    pub advance_done : (k : Kind) → ((w : BlockWrite) → kind_put k w ≡ some w) → (r : Wrote) (card' : List ℕ) → advance_due (state_of s m) ≡ some k → WriteDone (kind_write k (state_of s m) c) (after_kind k (state_of s m)) m c r card'
-        → FrameKept (advance s.migrated) (lent s m c) (wrote k r.block) (lent r.store m card')
+    pub advance_done : (k : Kind) → ((w : BlockWrite) → kind_put k w ≡ some w) → (b : ℕ) (t : Store) (card' : List ℕ) → advance_due (state_of s m) ≡ some k → WriteDone (kind_write k (state_of s m) c) (after_kind k (state_of s m)) m c b t card'
+        → FrameKept (advance s.migrated) (lent s m c) (wrote k b) (lent t m card')
     unfolding done_answer done_write after advance_answer advance_write advanced
-    advance_done k puts r card' d w = kept_done (advance s.migrated) (lent s m c) (lent r.store m card') (wrote k r.block) (own ∙ yes) (answer (advance_due (state_of s m)) d) (card (advance_due (state_of s m)) d)
+    advance_done k puts b t card' d w = kept_done (advance s.migrated) (lent s m c) (lent t m card') (wrote k b) (own ∙ yes) (answer (advance_due (state_of s m)) d) (card (advance_due (state_of s m)) d)
         (state (advance_due (state_of s m)) d) w.together refl
       where
         yes : first_no (advance_asks (state_of s m)) ≡ 0
         yes = unfold advance_asks in (asked_yes 20 (given (advance_due (state_of s m))) [] (ap given d) ∙ none_asked)
 
-        answer : (o : Option Kind) → o ≡ some k → wrote k r.block ≡ advance_answer o (lent s m c)
+        answer : (o : Option Kind) → o ≡ some k → wrote k b ≡ advance_answer o (lent s m c)
         answer o e = rw e (ap (wrote k) w.block_is)
 
         card : (o : Option Kind) → o ≡ some k → card' ≡ put_down (advance_write o (lent s m c)) c
         card o e = rw (e, puts (kind_write k (state_of s m) c)) w.card_is
 
-        state : (o : Option Kind) → o ≡ some k → state_of r.store m ≡ advanced o (state_of s m)
+        state : (o : Option Kind) → o ≡ some k → state_of t m ≡ advanced o (state_of s m)
         state o e = rw e w.meaning
 
     -- a flush writes nothing

@@ -3,47 +3,21 @@
 use Prim.Native.Nat.{ℕ, ◌+◌, ◌-◌, ◌≤◌}
 use borrow.Author.Tests.{ltb-true, ltb-false, ne_eqb}
 use lib.Dec.{ltb}
-use mathlib.Core.Bool.{Bool, true, false, cond}
+use mathlib.Core.Bool.{Bool, true, cond}
 use mathlib.Core.List.{List}
 use mathlib.Core.Logic.{◌≢◌}
-use mathlib.Core.Path.{◌≡◌, refl, sym, ◌∙◌}
+use mathlib.Core.Path.{◌≡◌, sym, ◌∙◌}
 use native.Mathlib.Omega.{arith}
 use Rattle.card.proofs.Test.{by_test}
 use Rattle.card.specs.Ring.{dir_blocks}
 use Rattle.frames.specs.Parts.{flush_owed, ends_left, Foretells}
 use Rattle.record.proofs.Held.{held}
-use Rattle.record.proofs.SoundLaws.{notes_length, queue_length, phase_owed}
+use Rattle.record.proofs.SoundLaws.{notes_length, queue_length}
 use Rattle.record.specs.Holds.{tail_for, holds_together}
-use Rattle.record.specs.Meaning.{waits, phase_of, state_of}
+use Rattle.record.specs.Meaning.{waits, state_of}
 use Rattle.record.specs.declared.store.Store.{Store}
 use Rattle.recovery.proofs.ForecastLaws.{forecast_none, forecast-sum}
-use Rattle.recovery.specs.State.{is_owed}
 use Rattle.recovery.specs.Sums.{moves_left, forecast, commit_sum}
-
--- ---- by the phase
-
-pub owed_one : (p : ℕ) → p ≡ 2 → 1 ≡ flush_owed p
-unfolding phase_of
-owed_one p e = rw e refl
-
-pub owed_not : (p : ℕ) → p ≤ 2 → p ≢ 2 → 0 ≡ flush_owed p
-owed_not p h d = go (is_owed (phase_of p)) refl
-  where
-    go : (t : Bool) → is_owed (phase_of p) ≡ t → ◌≡◌ {A = ℕ} 0 (cond t 1 0)
-    go true e = absurd (d (phase_owed p h e))
-    go false e = refl
-
-pub ends_writing : (p : ℕ) → p ≡ 0 → 3 ≡ ends_left p
-unfolding phase_of
-ends_writing p e = rw e refl
-
-pub ends_flushed : (p : ℕ) → p ≡ 1 → 2 ≡ ends_left p
-unfolding phase_of
-ends_flushed p e = rw e refl
-
-pub ends_owed : (p : ℕ) → p ≡ 2 → 4 ≡ ends_left p
-unfolding phase_of
-ends_owed p e = rw e refl
 
 -- ---- by the record
 

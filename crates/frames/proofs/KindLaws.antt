@@ -37,7 +37,7 @@ use Rattle.recovery.specs.Step.{Kind, directory, trailer, migration, header, flu
 
 -- a write and the step on the record that goes with it
 pub kind_done : (k : Kind) (s t : Store) (to : ℕ) (bytes card end : List ℕ) → ((m : List ℕ) → kind_write k (state_of s m) card ≡ record { block = to; bytes = bytes })
-    → end ≡ put_block card to bytes → StepDone (after_kind k) s t → KindDone k s card (record { block = to; store = t }) end
+    → end ≡ put_block card to bytes → StepDone (after_kind k) s t → KindDone k s card to t end
 kind_done k s t to bytes card end w e d m = rw (w m) (record { block_is = refl; card_is = e; meaning = d.meaning m; together = d.together })
 
 -- ---- M, D and T: one more committed entry is home, or one more block of the pending directory and trailer is down

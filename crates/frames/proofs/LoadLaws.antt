@@ -1,30 +1,36 @@
 -- Where a frame's newest bytes are, told by the first entry of the frame in each generation.
 -- Assumes nothing.
 use Prim.Native.Nat.{ℕ, suc, ◌+◌, ◌-◌, ◌≤◌, ◌<◌}
-use lib.ListN.{length, get_or}
-use mathlib.Core.Bool.{true, false, false≢true}
+use borrow.Author.Tests.{ltb-true, ltb-false}
+use lib.Dec.{ltb}
+use lib.ListN.{length, get_or, take, get_or-eq_default}
+use mathlib.Core.Bool.{true}
 use mathlib.Core.List.{List, [], ◌∷◌}
-use mathlib.Core.Logic.{◌≢◌}
+use mathlib.Core.Logic.{◌≢◌, ⊎_elim}
 use mathlib.Core.Path.{◌≡◌, refl, ap, sym, ◌∙◌}
 use native.Mathlib.Omega.{arith}
+use Rattle.std.specs.Prelude.{Ok, Err}
 use Rattle.card.proofs.AllLaws.{all_map, all_tab}
 use Rattle.card.proofs.BlockLaws.{block_length}
 use Rattle.card.proofs.BytesLaws.{tab_get_d}
 use Rattle.card.proofs.RingLaws.{ring_high, size_above}
+use Rattle.card.proofs.Test.{by_test, le_or_lt}
 use Rattle.card.specs.Block.{block_at}
 use Rattle.card.specs.Bytes.{All}
 use Rattle.card.specs.Directory.{entry_in, entries_of}
 use Rattle.card.specs.Ring.{ring_at}
 use Rattle.card.specs.declared.directory.Entry.{Entry}
 use Rattle.frames.proofs.ReadyLaws.{Ready, firsts}
-use Rattle.frames.specs.Parts.{Located, found_bytes, committed_bytes, CommittedParts, PartsHeld, CommittedBlock}
-use Rattle.frames.specs.declared.answer.Found.{Found}
-use Rattle.record.proofs.Held.{Listed, Held, held, bounds}
+use Rattle.frames.specs.Parts.{Located, placed_at, committed_bytes}
+use Rattle.frames.specs.declared.answer.Place.{Place}
+use Rattle.frames.specs.declared.answer.Place.TheVariants.{Memory, Card}
+use Rattle.record.proofs.Held.{Filed, Listed, Held, held, bounds}
 use Rattle.record.proofs.ListLaws.{first_none, first_found}
+use Rattle.record.proofs.SearchLaws.{take_rises, found_first, found_inside, absent_first}
 use Rattle.record.proofs.SeatLaws.{seat_low}
 use Rattle.record.proofs.SoundLaws.{frame_is, same_index, queue_length, place_low, entry_inside, sound}
 use Rattle.record.specs.Holds.{holds_together}
-use Rattle.record.specs.Lists.{Rises, First}
+use Rattle.record.specs.Lists.{Rises, First, Sought}
 use Rattle.record.specs.Meaning.{waits, note_in, notes_of, seat_at, queue_of, generation_of, committed_of, pending_first, current_first, state_of}
 use Rattle.record.specs.declared.store.Changes.{Changes}
 use Rattle.record.specs.declared.store.Store.{Store}
@@ -96,13 +102,11 @@ module _ {area blocks : ℕ} {g : Changes} (h : Listed area blocks g) (first : �
 -- ---- of a record
 
 -- a place of the card, and one of memory
-at_card : (s : Store) (bytes : List ℕ → List ℕ → List ℕ) (n : ℕ) → n < s.geometry.blocks → ((card memory : List ℕ) → block_at card n ≡ bytes card memory) → Located s bytes (record { memory = false; number = n })
-unfolding found_bytes
-at_card s bytes n h e = record { there = e; in_memory = λ q. absurd (false≢true q); on_card = λ q. h }
+at_card : (s : Store) (bytes : List ℕ → List ℕ → List ℕ) (n : ℕ) → n < s.geometry.blocks → ((card memory : List ℕ) → block_at card n ≡ bytes card memory) → Located s bytes (Card n)
+at_card s bytes n h e = record { there = e; inside = h }
 
-at_memory : (s : Store) (bytes : List ℕ → List ℕ → List ℕ) (n : ℕ) → n < s.frames → ((card memory : List ℕ) → block_at memory n ≡ bytes card memory) → Located s bytes (record { memory = true; number = n })
-unfolding found_bytes
-at_memory s bytes n h e = record { there = e; in_memory = λ q. h; on_card = λ q. absurd (false≢true (sym q)) }
+at_memory : (s : Store) (bytes : List ℕ → List ℕ → List ℕ) (n : ℕ) → n < s.frames → ((card memory : List ℕ) → block_at memory n ≡ bytes card memory) → Located s bytes (Memory n)
+at_memory s bytes n h e = record { there = e; inside = h }
 
 -- committed, over home
 module _ (s : Store) {f i : ℕ} (found : First s.committed.frames s.committed.count f i) where
@@ -110,7 +114,7 @@ module _ (s : Store) {f i : ℕ} (found : First s.committed.frames s.committed.c
   over-entry n j l d xs e = lookup_miss f _ xs d ∙ e
 
   -- no entry: the home block
-  pub at_home : (n : ℕ) → i ≡ s.committed.count → n ≡ f → f < s.geometry.blocks → Located s (committed_bytes s f) (record { memory = false; number = n })
+  pub at_home : (n : ℕ) → i ≡ s.committed.count → n ≡ f → f < s.geometry.blocks → Located s (committed_bytes s f) (Card n)
   unfolding entries_of lookup
   at_home n e q l = at_card s (committed_bytes s f) n (omega arith) (λ card memory. ap (block_at card) q ∙ sym (overlay-lookup card (committed_of s).entries (block_at card) f ∙ ap (shown card (block_at card f))
       (first_none (λ j xs. lookup f xs ≡ 0) (entry_in s.geometry.area s.first s.committed.frames s.committed.places) s.committed.frames s.committed.count f i found (over-entry 0) e refl)))
@@ -121,7 +125,7 @@ module _ (s : Store) {f i : ℕ} (found : First s.committed.frames s.committed.c
   committed_fits h d e = ((bounds s h).area_high, (h.first_high, omega (arith, e, place_low s h i (omega (arith, found.most)))))
 
   -- and its area block
-  pub at_committed : Held s → (n : ℕ) → i ≢ s.committed.count → n ≡ ring_at s.geometry.area s.first (get_or s.committed.places i 0) → Located s (committed_bytes s f) (record { memory = false; number = n })
+  pub at_committed : Held s → (n : ℕ) → i ≢ s.committed.count → n ≡ ring_at s.geometry.area s.first (get_or s.committed.places i 0) → Located s (committed_bytes s f) (Card n)
   unfolding entries_of
   at_committed h n d q =
       let c : i < s.committed.count = omega (arith, found.most) in
@@ -130,29 +134,6 @@ module _ (s : Store) {f i : ℕ} (found : First s.committed.frames s.committed.c
       at_card s (committed_bytes s f) n (omega (arith, inside.0, (bounds s h).area_inside)) (λ card memory. ap (block_at card) q ∙ sym (overlay-lookup card (committed_of s).entries (block_at card) f ∙ ap (shown card (block_at card f))
       (first_found (λ j xs. lookup f xs ≡ suc b) (entry_in s.geometry.area s.first s.committed.frames s.committed.places) s.committed.frames s.committed.count f i found (over-entry (suc b)) c
       (λ xs. rw (← found.is c) (lookup_hit (entry_in s.geometry.area s.first s.committed.frames s.committed.places i) xs)))))
-
--- by the parts of the record
-module _ {area first : ℕ} {frames places : List ℕ} {count : ℕ} where
-  pub parts_rise : PartsHeld area first frames places count → (count ≤ 256) × Rises frames count
-  parts_rise k =
-      let h = held k.store k.together in
-      (omega (arith, k.parts.count_is, (bounds k.store h).committed_small), rw (k.parts.frames_are, k.parts.count_is) h.committed.rises)
-
-  module _ {f i : ℕ} (found : First frames count f i) where
-    found_in : (s : Store) → CommittedParts s area first frames places count → First s.committed.frames s.committed.count f i
-    found_in s p = rw (← p.frames_are, ← p.count_is) found
-
-    pub parts_home : (n : ℕ) → i ≡ count → n ≡ f → CommittedBlock area first frames places count f n
-    parts_home n e q = λ s p h l. at_home s (found_in s p) n (e ∙ p.count_is) q l
-
-    pub parts_fit : PartsHeld area first frames places count → i ≢ count → {place : ℕ} → place ≡ get_or places i 0 → (area ≤ 512) × ((first ≤ area) × (place ≤ area))
-    parts_fit k d e =
-        let p = k.parts in
-        let fits = committed_fits k.store (found_in k.store p) (held k.store k.together) (λ z. d (z ∙ sym p.count_is)) (e ∙ ap (λ (l : List ℕ). get_or l i 0) p.places_are) in
-        (omega (arith, p.area_is, fits.0), (omega (arith, p.area_is, p.first_is, fits.1.0), omega (arith, p.area_is, fits.1.1)))
-
-    pub parts_entry : (n : ℕ) → i ≢ count → n ≡ ring_at area first (get_or places i 0) → CommittedBlock area first frames places count f n
-    parts_entry n d q = λ s p h l. at_committed s (found_in s p) (held s h) n (λ z. d (z ∙ sym p.count_is)) (q ∙ (rw (p.area_is, p.first_is, p.places_are) refl))
 
 -- a generation whose first block is `first`, and before whose waiting frames `ahead` others wait
 pub record Placed (s : Store) (g : Changes) (first ahead : ℕ) : Type 0 where
@@ -198,11 +179,10 @@ module _ {s : Store} {g : Changes} {first ahead : ℕ} (placed : Placed s g firs
   long memory = queue_length s memory ahead (waits g)
 
   -- no entry
-  pub under : (below : List ℕ → List ℕ → Contents) (r : Found) → i ≡ g.count → Located s (λ card memory. below card memory f) r → Located s (over below) r
+  pub under : (below : List ℕ → List ℕ → Contents) (r : Place) → i ≡ g.count → Located s (λ card memory. below card memory f) r → Located s (over below) r
   under below r e l = record {
     there = λ card memory. l.there card memory ∙ sym (shows_none placed.listed first (queue_of s memory ahead (waits g)) (long memory) card (below card memory) f i found e);
-    in_memory = l.in_memory;
-    on_card = l.on_card;
+    inside = l.inside;
   }
 
   -- an entry, and its place
@@ -210,44 +190,34 @@ module _ {s : Store} {g : Changes} {first ahead : ℕ} (placed : Placed s g firs
     inner : i < g.count
     inner = omega (arith, found.most)
 
-    pub index_in : i < 256
-    index_in = omega (arith, inner, placed.few)
-
     module _ {place : ℕ} (is : place ≡ get_or g.places i 0) where
       place_in : (place < g.taken) × (place ≤ s.geometry.area)
       place_in = let l = placed.listed.filed.taken i inner in (omega arith, omega (arith, placed.inside (omega (arith, inner))))
 
-      module _ (from : ℕ) (start : from ≡ first) where
-        pub ring_in : (s.geometry.area ≤ 512) × ((from ≤ s.geometry.area) × (place ≤ s.geometry.area))
-        ring_in = ((bounds s placed.together).area_high, (rw start placed.first_in, place_in.1))
-
-        -- a place that is down: its area block
-        pub at_place_lem : (below : List ℕ → List ℕ → Contents) (n : ℕ) → place < g.down → n ≡ ring_at s.geometry.area from place → Located s (over below) (record { memory = false; number = n })
-        at_place_lem below n l e =
-            at_card s (over below) n (omega (arith, ring_high s.geometry.area from place ring_in.1.0 place_in.1, (bounds s placed.together).area_inside))
-            (λ card memory. ap (block_at card) (rw (← start, ← is) e) ∙ sym (shows_down placed.listed first (queue_of s memory ahead (waits g)) (long memory) card (below card memory) f i found inner (rw is at l)))
+      pub place_inside : place ≤ s.geometry.area
+      place_inside = place_in.1
 
       pub turn_in : g.down ≤ place → ahead + (place - g.down) ≤ s.frames
       turn_in l = omega (arith, place_in.0, placed.seated)
 
+      -- one that is down: its area block
+      at_block : (below : List ℕ → List ℕ → Contents) → place < g.down → Located s (over below) (Card (ring_at s.geometry.area first place))
+      at_block below l =
+          at_card s (over below) _ (omega (arith, ring_high s.geometry.area first place placed.first_in place_in.1, (bounds s placed.together).area_inside))
+          (λ card memory. ap (λ (k : ℕ). block_at card (ring_at s.geometry.area first k)) is
+          ∙ sym (shows_down placed.listed first (queue_of s memory ahead (waits g)) (long memory) card (below card memory) f i found inner (rw is at l)))
+
       -- one that waits: its memory frame
-      pub at_turn : (below : List ℕ → List ℕ → Contents) (n : ℕ) → g.down ≤ place → n ≡ seat_at s.frames s.head (ahead + (place - g.down)) → Located s (over below) (record { memory = true; number = n })
-      at_turn below n l e =
-          at_memory s (over below) n (omega (arith, seat_low s.frames s.head (ahead + (place - g.down)) placed.together.head_low (turn_in l)))
+      at_turn : (below : List ℕ → List ℕ → Contents) → g.down ≤ place → Located s (over below) (Memory (seat_at s.frames s.head (ahead + (place - g.down))))
+      at_turn below l =
+          at_memory s (over below) _ (omega (arith, seat_low s.frames s.head (ahead + (place - g.down)) placed.together.head_low (turn_in l)))
           (λ card memory.
-          ap (block_at memory) e
-          ∙ sym (shows_waiting placed.listed first (queue_of s memory ahead (waits g)) (long memory) card (below card memory) f i found inner (rw is at l)
+          sym (shows_waiting placed.listed first (queue_of s memory ahead (waits g)) (long memory) card (below card memory) f i found inner (rw is at l)
           ∙ rw (← is) (tab_get_d (λ k. block_at memory (seat_at s.frames s.head k)) ahead (waits g) (place - g.down) [] (omega (arith, place_in.0)))))
 
--- ---- the bytes that are there
-
-pub from_memory : (r : Found) (card memory : List ℕ) → r.memory ≡ true → found_bytes r card memory ≡ block_at memory r.number
-unfolding found_bytes
-from_memory r card memory e = rw e
-
-pub from_card : (r : Found) (card memory : List ℕ) → r.memory ≡ false → found_bytes r card memory ≡ block_at card r.number
-unfolding found_bytes
-from_card r card memory e = rw e
+      pub at_place : (below : List ℕ → List ℕ → Contents) {p : Place} → p ≡ placed_at s s.geometry.area first g.down ahead place → Located s (over below) p
+      at_place below e =
+          rw e (by_test (Located s (over below)) (ltb place g.down) (λ t. at_block below (ltb-true place g.down t)) (λ t. at_turn below (ltb-false place g.down t)))
 
 -- ---- a frame's newest bytes are a whole block
 
@@ -275,3 +245,23 @@ module _ (s : Store) (m c : List ℕ) (r : Ready s (length m) (length c)) (f : �
       let stored = stored_whole c s.geometry.area _ r.card_is low entries (all_map (Between s.geometry.area s.first 0 s.pages) (λ e. e.block ≤ s.geometry.area) entries (λ e h. h.1) n.committed_inside) in
       let committed = overlay-whole (stored_frames c entries) (block_at c) f stored (block_length c f (omega (arith, r.card_is))) in
       over-whole (current_placed s r.together) _ n.current_home.1 _ (over-whole (pending_placed s r.together) _ n.pending_home.1 _ committed)
+
+-- ---- what a search of a directory's entries finds
+
+module _ {area blocks p n : ℕ} {frames spots : List ℕ} (d : Filed area blocks p frames spots n) where
+  -- they lie within the array, since each is above 0
+  pub filed_long : n ≤ length frames
+  filed_long = ⊎_elim (λ h. h) (λ h. absurd (omega (arith, d.home (length frames) h, get_or-eq_default frames 0 {n = length frames} (omega arith)))) (le_or_lt n (length frames))
+
+  pub filed_rises : Rises (take n frames) (length (take n frames))
+  filed_rises = take_rises frames n filed_long d.rises
+
+  module _ {f i : ℕ} where
+    pub filed_found : Sought (take n frames) f (Ok i) → First frames n f i
+    filed_found s = found_first frames n filed_long f i s
+
+    pub filed_inside : Sought (take n frames) f (Ok i) → i ≢ n
+    filed_inside s = let l = found_inside frames n filed_long f i s in omega (arith, l)
+
+    pub filed_none : Sought (take n frames) f (Err i) → First frames n f n
+    filed_none s = absent_first frames n filed_long f i s

@@ -196,7 +196,7 @@ module _ (s : Store) (h : Held s) (next : ℕ) (turn : next ≡ seat_at s.frames
 
 module _ (s : Store) (m c : List ℕ) (r : Ready s (length m) (length c)) (next : ℕ) (turn : next ≡ seat_at s.frames s.head 1) (first to : ℕ) (x card' : List ℕ) where
   pub pending_done : s.pending.down < s.pending.taken → first ≡ pending_first s → to ≡ ring_at s.geometry.area first s.pending.down → card' ≡ put_block c to x → x ≡ block_at m s.head
-      → WriteDone (out_write s.geometry.area (state_of s m).pending) (pending_to (out_of (state_of s m).pending) s.tail (state_of s m)) m c (record { block = to; store = pending_down s next }) card'
+      → WriteDone (out_write s.geometry.area (state_of s m).pending) (pending_to (out_of (state_of s m).pending) s.tail (state_of s m)) m c to (pending_down s next) card'
   pending_done more f t w e =
       let h = held s r.together in
       let at : to ≡ ring_at s.geometry.area (pending_first s) s.pending.down = t ∙ ap (λ (n : ℕ). ring_at s.geometry.area n s.pending.down) f in
@@ -210,7 +210,7 @@ module _ (s : Store) (m c : List ℕ) (r : Ready s (length m) (length c)) (next 
 
   pub current_done : s.pending.taken ≤ s.pending.down → s.current.down < s.current.taken → first ≡ current_first s → to ≡ ring_at s.geometry.area first s.current.down
       → card' ≡ put_block c to x → x ≡ block_at m s.head
-      → WriteDone (out_write s.geometry.area (state_of s m).current) (current_to (out_of (state_of s m).current) (state_of s m)) m c (record { block = to; store = current_down s next }) card'
+      → WriteDone (out_write s.geometry.area (state_of s m).current) (current_to (out_of (state_of s m).current) (state_of s m)) m c to (current_down s next) card'
   current_done clear more f t w e =
       let h = held s r.together in
       let at : to ≡ ring_at s.geometry.area (current_first s) s.current.down = t ∙ ap (λ (n : ℕ). ring_at s.geometry.area n s.current.down) f in

@@ -58,17 +58,17 @@ start_store memory card c p q = record {
 
 module _ (memory card : List ℕ) (c : Checkpoint) (ok : Startable memory card c) where
   header_is : c.header ≡ header_on (block_at card 0)
-  header_is = ok.read.header_is ok.passed
+  header_is = ok.read.read.header_is
 
   trailer_is : c.trailer ≡ committed_on card
-  trailer_is = ok.read.trailer_is ok.passed
+  trailer_is = ok.read.read.trailer_is
 
   -- its entries, as the record has them
   abbrev entries : List Entry
   entries = entries_of c.header.area c.trailer.first c.directory.frames c.directory.places c.directory.count
 
   entries_is : entries ≡ entries_on card
-  entries_is = ok.read.entries_is ok.passed
+  entries_is = ok.read.read.entries_is
 
   count_is : c.directory.count ≡ c.trailer.entries
   unfolding entries_on read_dir
@@ -79,7 +79,7 @@ module _ (memory card : List ℕ) (c : Checkpoint) (ok : Startable memory card c
   asked : HeaderPassed card c.header × (first_no (generation_asks card) ≡ 0)
   unfolding card_asks
   asked =
-      let q = passed_both 2 (whole 11 65536 (length card)) _ (sym ok.read.number ∙ ok.passed) in
+      let q = passed_both 2 (whole 11 65536 (length card)) _ (sym ok.read.number) in
       let r = groups_passed (header_asks (length card / 512) (header_on (block_at card 0))) (generation_asks card) (header_numbered (length card / 512) (header_on (block_at card 0))) q.1 in
       (record { card_whole = q.0; header_is = header_is; passed = rw header_is r.0 }, r.1)
 
@@ -106,7 +106,7 @@ module _ (memory card : List ℕ) (c : Checkpoint) (ok : Startable memory card c
       record {
         home = λ i l. tab_all (Home area (length card / 512)) (entry_in area c.trailer.first c.directory.frames c.directory.places) 0 c.directory.count t.1.0 i (omega arith) (omega arith);
         rises = frames_rise area c.trailer.first c.directory.frames c.directory.places c.directory.count t.1.1.1;
-        taken = ok.read.places_are ok.passed;
+        taken = ok.read.read.places_are;
       }
 
   told : Told

@@ -1,19 +1,19 @@
 -- What the parts of calls promise.
 -- Assumes nothing.
-use Rattle.std.specs.Prelude.{ℕ, ◌+◌, ◌*◌, ◌≤◌, ◌<◌, length, get_or, Bool, true, false, cond, List, [], ◌∷◌, ◌≢◌, ◌≡◌}
+use Rattle.std.specs.Prelude.{ℕ, ◌+◌, ◌-◌, ◌*◌, ◌≤◌, ◌<◌, ltb, length, get_or, Bool, true, cond, List, [], ◌∷◌, ◌≢◌, ◌≡◌, Ok}
 use Rattle.card.specs.Block.{block_at, put_block, whole}
 use Rattle.card.specs.Bytes.{tabulate}
 use Rattle.card.specs.Checkpoint.{Recovered}
 use Rattle.card.specs.Question.{first_no}
+use Rattle.card.specs.Ring.{ring_at}
 use Rattle.card.specs.declared.checkpoint.Checkpoint.{Checkpoint}
 use Rattle.frames.specs.Promise.{lent, common_asks, change, FrameKept, numbered, LoadsCommitted}
-use Rattle.frames.specs.declared.answer.Found.{Found}
 use Rattle.frames.specs.declared.answer.Need.{Need}
-use Rattle.frames.specs.declared.answer.Wrote.{Wrote}
-use Rattle.frames.specs.declared.answer.Size.{Size}
+use Rattle.frames.specs.declared.answer.Place.{Place}
+use Rattle.frames.specs.declared.answer.Place.TheVariants.{Memory, Card}
 use Rattle.record.specs.Holds.{holds_together}
 use Rattle.record.specs.Lists.{once, all_within}
-use Rattle.record.specs.Meaning.{committed_of, phase_of, state_of}
+use Rattle.record.specs.Meaning.{committed_of, phase_of, seat_at, state_of}
 use Rattle.record.specs.declared.store.Changes.{Changes}
 use Rattle.record.specs.declared.store.Store.{Store}
 use Rattle.recovery.specs.Book.{WholeFrame}
@@ -25,16 +25,16 @@ use Rattle.recovery.specs.Step.{after_change, Kind, kind_write, after_kind, star
 use Rattle.recovery.specs.Sums.{places_needed, entries_needed, moves_left, forecast}
 use Rattle.recovery.specs.Write.{BlockWrite}
 
--- a block write that is done: the block that is reported, the card, and a record that means the next state and holds together
-pub record WriteDone (w : BlockWrite) (next : State) (memory card : List ℕ) (r : Wrote) (after : List ℕ) : Type 0 where
-  pub block_is : r.block ≡ w.block
+-- a block write that is done: the block that is reported, the card after it, and a record that means the next state and holds together
+pub record WriteDone (w : BlockWrite) (next : State) (memory card : List ℕ) (block : ℕ) (t : Store) (after : List ℕ) : Type 0 where
+  pub block_is : block ≡ w.block
   pub card_is : after ≡ put_block card w.block w.bytes
-  pub meaning : state_of r.store memory ≡ next
-  pub together : holds_together r.store ≡ true
+  pub meaning : state_of t memory ≡ next
+  pub together : holds_together t ≡ true
 
 -- one that needs no memory
-abbrev pub KindDone : Kind → Store → List ℕ → Wrote → List ℕ → Type 0
-KindDone k s card r after = (memory : List ℕ) → WriteDone (kind_write k (state_of s memory) card) (after_kind k (state_of s memory)) memory card r after
+abbrev pub KindDone : Kind → Store → List ℕ → (block : ℕ) → Store → List ℕ → Type 0
+KindDone k s card block t after = (memory : List ℕ) → WriteDone (kind_write k (state_of s memory) card) (after_kind k (state_of s memory)) memory card block t after
 
 -- what a write of advance may rest on: no flush is owed
 pub record Writable (s : Store) (card : List ℕ) : Type 0 where
@@ -72,34 +72,24 @@ pub record StepDone (next : State → State) (s t : Store) : Type 0 where
 -- ---- load
 
 -- the bytes at a memory frame or at a block of the card
-unfoldable pub found_bytes : Found → List ℕ → List ℕ → List ℕ
-found_bytes r card memory = cond r.memory (block_at memory r.number) (block_at card r.number)
+abbrev pub found_bytes : Place → List ℕ → List ℕ → List ℕ
+found_bytes (Memory n) card memory = block_at memory n
+found_bytes (Card n) card memory = block_at card n
+
+-- it is one of the record's memory frames, or one of its card's blocks
+abbrev pub Inside : Store → Place → Type 0
+Inside s (Memory n) = n < s.frames
+Inside s (Card n) = n < s.geometry.blocks
 
 -- where the bytes of a frame are, whatever card and memory hold
-pub record Located (s : Store) (bytes : List ℕ → List ℕ → List ℕ) (r : Found) : Type 0 where
-  pub there : (card memory : List ℕ) → found_bytes r card memory ≡ bytes card memory
-  pub in_memory : r.memory ≡ true → r.number < s.frames
-  pub on_card : r.memory ≡ false → r.number < s.geometry.blocks
+pub record Located (s : Store) (bytes : List ℕ → List ℕ → List ℕ) (p : Place) : Type 0 where
+  pub there : (card memory : List ℕ) → found_bytes p card memory ≡ bytes card memory
+  pub inside : Inside s p
 
--- a record's committed directory in parts: area, the generation's first block, frames, places, how many entries
-pub record CommittedParts (s : Store) (area first : ℕ) (frames places : List ℕ) (count : ℕ) : Type 0 where
-  pub area_is : area ≡ s.geometry.area
-  pub first_is : first ≡ s.first
-  pub frames_are : frames ≡ s.committed.frames
-  pub places_are : places ≡ s.committed.places
-  pub count_is : count ≡ s.committed.count
-
--- some record has these parts, and holds together, or is lent with a card on which the frame lies
-pub record PartsHeld (area first : ℕ) (frames places : List ℕ) (count : ℕ) : Type 0 where
-  pub store : Store
-  pub parts : CommittedParts store area first frames places count
-  pub together : holds_together store ≡ true
-
-pub record PartsLent (area first : ℕ) (frames places : List ℕ) (count : ℕ) (card : List ℕ) (frame : ℕ) : Type 0 where
-  pub store : Store
-  pub parts : CommittedParts store area first frames places count
-  pub readable : Readable store card
-  pub inside : frame < store.geometry.blocks
+-- where a place's bytes are, in a generation from `first` on of which `down` places are down and before whose waiting
+-- frames `ahead` others wait
+abbrev pub placed_at : Store → (area first down ahead place : ℕ) → Place
+placed_at s area first down ahead place = cond (ltb place down) (Card (ring_at area first place)) (Memory (seat_at s.frames s.head (ahead + (place - down))))
 
 -- committed over home, and pending over these
 abbrev pub committed_bytes : Store → ℕ → List ℕ → List ℕ → List ℕ
@@ -113,14 +103,9 @@ pending_bytes s f card memory =
 abbrev pub newest_bytes : Store → ℕ → List ℕ → List ℕ → List ℕ
 newest_bytes s f card memory = read_frame (state_of s memory) card f
 
--- the block that has a frame, and its bytes, of every record with these parts
-abbrev pub CommittedBlock : (area first : ℕ) (frames places : List ℕ) (count frame block : ℕ) → Type 0
-CommittedBlock area first frames places count frame block = (s : Store) → CommittedParts s area first frames places count → holds_together s ≡ true → frame < s.geometry.blocks
-    → Located s (committed_bytes s frame) (record { memory = false; number = block })
-
-abbrev pub CommittedShows : (area first : ℕ) (frames places : List ℕ) (count : ℕ) (card : List ℕ) (frame : ℕ) (bytes : List ℕ) → Type 0
-CommittedShows area first frames places count card frame bytes = (s : Store) → CommittedParts s area first frames places count → Readable s card → frame < s.geometry.blocks
-    → (memory : List ℕ) → LoadsCommitted (lent s memory card) frame bytes
+-- what the committed generation shows of a frame; memory does not matter
+abbrev pub CommittedShows : Store → List ℕ → ℕ → List ℕ → Type 0
+CommittedShows s card frame bytes = (memory : List ℕ) → LoadsCommitted (lent s memory card) frame bytes
 
 -- ---- room and change
 
@@ -155,10 +140,6 @@ with_current s g = record {
   phase = s.phase;
 }
 
--- with that size, and its entries in these arrays
-abbrev pub with_arrays : Store → Size → List ℕ → List ℕ → Store
-with_arrays s n frames places = with_current s (record { count = n.entries; taken = n.places; down = s.current.down; frames = frames; places = places })
-
 -- what a change of one frame may rest on
 pub record Changeable (s : Store) (memory : List ℕ) (w : FrameBytes) : Type 0 where
   pub together : holds_together s ≡ true
@@ -180,6 +161,12 @@ pub record Inserted (l : List ℕ) (n i x : ℕ) (r : List ℕ) : Type 0 where
   pub here : get_or r i 0 ≡ x
   pub higher : (j : ℕ) → i ≤ j → j < n → get_or r (j + 1) 0 ≡ get_or l j 0
   pub long : length r ≡ 256
+
+-- the i-th entry is a frame's, with the next place, and those that stood from there on are one higher
+pub record Entered (g : Changes) (i frame : ℕ) (g' : Changes) : Type 0 where
+  pub frames : Inserted g.frames g.count i frame g'.frames
+  pub places : Inserted g.places g.count i g.taken g'.places
+  pub whole : g' ≡ record { count = g.count + 1; taken = g.taken + 1; down = g.down; frames = g'.frames; places = g'.places }
 
 -- frames with their bytes: their names, and 512 bytes for each in turn
 abbrev pub frames_with : List ℕ → List ℕ → List FrameBytes
@@ -206,8 +193,7 @@ ChangeKept s memory names bytes n t after = (card : List ℕ) → first_no (comm
 -- a card and memory that start accepts, with what was read of the card
 pub record Startable (memory card : List ℕ) (c : Checkpoint) : Type 0 where
   pub memory_whole : whole 4 64 (length memory) ≡ true
-  pub read : Recovered card c
-  pub passed : c.refusal ≡ 0
+  pub read : Recovered card (Ok c)
 
 pub record Started (memory card : List ℕ) (t : Store) : Type 0 where
   pub meaning : state_of t memory ≡ start_state memory card

@@ -1,10 +1,12 @@
 -- The promise of the frame layer's calls: what each is to do with what it is lent, refusals included.
 -- Assumes nothing.
-use Rattle.std.specs.Prelude.{ℕ, ◌<◌, eqb, length, true, cond, List, ◌++◌, ◌≡◌}
+use Rattle.std.specs.Prelude.{ℕ, ◌<◌, eqb, length, true, cond, List, ◌++◌, ◌≡◌, Result, Ok, Err}
 use Rattle.std.proofs.Math.Option.{Option, none, some}
 use Rattle.card.specs.Question.{Question, first_no}
+use Rattle.card.specs.Refusal.{number}
+use Rattle.card.specs.declared.refusal.Refusal.{Refusal}
 use Rattle.frames.specs.declared.answer.Advance.{Advance}
-use Rattle.frames.specs.declared.answer.Advance.TheVariants.{P, D, T, M, H, F, Refused}
+use Rattle.frames.specs.declared.answer.Advance.TheVariants.{P, D, T, M, H, F}
 use Rattle.record.specs.Holds.{holds_together}
 use Rattle.record.specs.Meaning.{state_of, zero_store}
 use Rattle.record.specs.declared.store.Store.{Store}
@@ -151,14 +153,17 @@ unfoldable pub numbered : ℕ → FrameAnswer
 numbered n = cond (eqb n 0) done (refused n)
 
 -- what advance and page-out answer: document 01's letters are the kinds that they report
-unfoldable pub reported : Advance → FrameAnswer
-reported (P n) = wrote page n
-reported (D n) = wrote directory n
-reported (T n) = wrote trailer n
-reported (M n) = wrote migration n
-reported (H n) = wrote header n
-reported (F n) = wrote flush n
-reported (Refused n) = refused n
+unfoldable pub written : Advance → FrameAnswer
+written (P n) = wrote page n
+written (D n) = wrote directory n
+written (T n) = wrote trailer n
+written (M n) = wrote migration n
+written (H n) = wrote header n
+written (F n) = wrote flush n
+
+unfoldable pub reported : Result Advance Refusal → FrameAnswer
+reported (Ok a) = written a
+reported (Err r) = refused (number r)
 
 -- the bytes that the committed generation shows of a frame: its entry's block, or home
 abbrev pub LoadsCommitted : Lent → ℕ → List ℕ → Type 0

@@ -1,24 +1,15 @@
 // What the calls and their parts hand back.
-use record::store::{Changes, Store};
+use record::store::Store;
 
-// Of a call that answers with a number: 0 is done, else it is the number of the question that was answered "no".
-#[repr(C)]
+// Of a call that takes the record by value and hands it back beside its answer.
 #[derive(Clone, Copy)]
-pub struct Done {
-    pub answer: u32,
+pub struct Done<A> {
+    pub answer: A,
     pub store: Store,
 }
 
-// Of a write: the block written.
-#[repr(C)]
-#[derive(Clone, Copy)]
-pub struct Wrote {
-    pub block: usize,
-    pub store: Store,
-}
-
-// What advance or page-out wrote: a waiting page, a directory block, the trailer, a migrated frame, the header, each
-// with its block; a flush, with block 0. Or the refusal's number.
+// What advance or page-out wrote, by document 01's letters, each with its block: a waiting page, a directory block, the
+// trailer, a migrated frame, the header; or a flush, with block 0.
 #[derive(Clone, Copy)]
 pub enum Advance {
     P(usize),
@@ -27,43 +18,18 @@ pub enum Advance {
     M(usize),
     H(usize),
     F(usize),
-    Refused(u32),
-}
-
-#[derive(Clone, Copy)]
-pub struct Advanced {
-    pub answer: Advance,
-    pub store: Store,
 }
 
 // A memory frame, or a block of the card.
-#[repr(C)]
 #[derive(Clone, Copy)]
-pub struct Found {
-    pub memory: bool,
-    pub number: usize,
+pub enum Place {
+    Memory(usize),
+    Card(usize),
 }
 
 // How many new places and new entries frames need.
-#[repr(C)]
 #[derive(Clone, Copy)]
 pub struct Need {
     pub places: usize,
     pub entries: usize,
-}
-
-// How many entries a generation has, and how many places are taken.
-#[repr(C)]
-#[derive(Clone, Copy)]
-pub struct Size {
-    pub entries: usize,
-    pub places: usize,
-}
-
-// Of a change: its number, and the current generation then.
-#[repr(C)]
-#[derive(Clone, Copy)]
-pub struct Changed {
-    pub answer: u32,
-    pub current: Changes,
 }

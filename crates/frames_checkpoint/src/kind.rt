@@ -8,149 +8,117 @@ ghost use Rattle.frames.specs.Parts.{KindDone, StepDone, Writable};
 
 use card::directory::Directory;
 use card::trailer::Trailer;
-use card_blocks::{block, ring};
+use card_blocks::block;
 use card_checkpoint::{directory, header, trailer};
-use frames::answer::Wrote;
 use record::store::Store;
 use record_hold::place;
-use record_list::list;
-
-// One block more of the pending directory and trailer is down.
-fn tail_down(s: Store) -> Store
-    requires { (holds_together s ≡ true) × ((waits s.pending ≡ 0) × ((0 < s.pending.count) × ((s.tail ≤ dir_blocks s.pending.count) × (s.phase ≢ 2)))) }
-    ensures { StepDone (after_kind directory) s result }
-{
-    let next = s.tail + 1;
-    let mut t = s;
-    t.tail = next;
-    t
-}
 
 // D: the next block of the pending directory.
-pub fn directory_block(s: Store, card: &mut [u8]) -> Wrote
-    requires { Writable s card.old × ((waits s.pending ≡ 0) × (s.tail < dir_blocks s.pending.count)) }
-    ensures { KindDone directory s card.old result card.new }
+pub fn directory_block(s: &mut Store, card: &mut [u8]) -> usize
+    requires writable { Writable s.old card.old }
+    requires none_waits { waits s.old.pending ≡ 0 }
+    requires left { s.old.tail < dir_blocks s.old.pending.count }
+    ensures { KindDone directory s.old card.old result s.new card.new }
 {
-    let first = place::pending_first(s);
-    let g = s.pending;
-    let bytes = directory::block(
-        s.geometry.area,
-        first,
-        &g.frames,
-        &g.places,
-        g.count,
-        s.tail,
-    );
-    let to = ring::at(s.geometry.area, first, s.pending.taken + s.tail);
+    let ring = place::pending_ring(s);
+    let g = &s.pending;
+    let bytes = directory::block(ring, &g.frames[..g.count], &g.places[..g.count], s.tail);
+    let to = ring.at(g.taken + s.tail);
     block::put(card, to, &bytes);
-    let t = tail_down(s);
-    Wrote {
-        block: to,
-        store: t,
-    }
+    s.tail += 1;
+    to
 }
 
 // T: the pending trailer.
-pub fn trailer_block(s: Store, card: &mut [u8]) -> Wrote
-    requires { Writable s card.old × ((waits s.pending ≡ 0) × ((0 < s.pending.count) × (s.tail ≡ dir_blocks s.pending.count))) }
-    ensures { KindDone trailer s card.old result card.new }
+pub fn trailer_block(s: &mut Store, card: &mut [u8]) -> usize
+    requires writable { Writable s.old card.old }
+    requires none_waits { waits s.old.pending ≡ 0 }
+    requires pending { 0 < s.old.pending.count }
+    requires last { s.old.tail ≡ dir_blocks s.old.pending.count }
+    ensures { KindDone trailer s.old card.old result s.new card.new }
 {
-    let first = place::pending_first(s);
-    let x = Trailer {
+    let ring = place::pending_ring(s);
+    let t = Trailer {
         commit: s.commit + 1,
-        first: first,
+        first: ring.first,
         pages: s.pending.taken,
         entries: s.pending.count,
     };
-    let bytes = trailer::block(x);
-    let to = ring::at(s.geometry.area, first, s.pending.taken + s.tail);
-    block::put(card, to, &bytes);
-    let t = tail_down(s);
-    Wrote {
-        block: to,
-        store: t,
-    }
+    let to = ring.at(s.pending.taken + s.tail);
+    block::put(card, to, &trailer::block(&t));
+    s.tail += 1;
+    to
 }
 
 // M: the next committed entry is copied home.
-pub fn migrate(s: Store, card: &mut [u8]) -> Wrote
-    requires { Writable s card.old × (s.migrated < s.committed.count) }
-    ensures { KindDone migration s card.old result card.new }
+pub fn migrate(s: &mut Store, card: &mut [u8]) -> usize
+    requires writable { Writable s.old card.old }
+    requires left { s.old.migrated < s.old.committed.count }
+    ensures { KindDone migration s.old card.old result s.new card.new }
 {
-    let i = s.migrated;
-    let d = s.committed;
-    let home = list::at(&d.frames, i);
-    let from = ring::at(s.geometry.area, s.first, list::place_at(&d.places, i));
+    let d = &s.committed;
+    let home = usize::from(d.frames[s.migrated]);
+    let from = place::committed_ring(s).at(usize::from(d.places[s.migrated]));
     block::copy(card, from, home);
-    let next = i + 1;
-    let mut t = s;
-    t.migrated = next;
-    Wrote {
-        block: home,
-        store: t,
-    }
+    s.migrated += 1;
+    home
 }
 
 // The pending generation is the committed one, its directory as it stands, and a flush is owed.
-fn commit(s: Store) -> Store
-    requires { (holds_together s ≡ true) × ((waits s.pending ≡ 0) × (0 < s.pending.count)) }
-    ensures { StepDone (after_kind header) s result }
+fn commit(s: &mut Store)
+    requires together { holds_together s.old ≡ true }
+    requires none_waits { waits s.old.pending ≡ 0 }
+    requires pending { 0 < s.old.pending.count }
+    ensures { StepDone (after_kind header) s.old s.new }
 {
-    let first = place::pending_first(s);
-    let g = s.pending;
-    let frames = g.frames;
-    let places = g.places;
-    let d = Directory {
-        count: g.count,
-        frames: frames,
-        places: places,
+    s.first = place::pending_ring(s).first;
+    s.commit += 1;
+    s.pages = s.pending.taken;
+    s.committed = Directory {
+        count: s.pending.count,
+        frames: s.pending.frames,
+        places: s.pending.places,
     };
-    let next = s.commit + 1;
-    let mut t = s;
-    t.commit = next;
-    t.first = first;
-    t.pages = g.taken;
-    t.committed = d;
-    t.migrated = 0;
-    t.pending.count = 0;
-    t.pending.taken = 0;
-    t.pending.down = 0;
-    t.tail = 0;
-    t.phase = 2;
-    t
+    s.migrated = 0;
+    s.pending.count = 0;
+    s.pending.taken = 0;
+    s.pending.down = 0;
+    s.tail = 0;
+    s.phase = 2;
 }
 
 // F, the one that is owed after a header write or a start.
-pub fn flush_owed(s: Store) -> Store
-    requires { (holds_together s ≡ true) × (s.phase ≡ 2) }
-    ensures { StepDone (after_kind flush) s result }
+pub fn flush_owed(s: &mut Store)
+    requires together { holds_together s.old ≡ true }
+    requires owed { s.old.phase ≡ 2 }
+    ensures { StepDone (after_kind flush) s.old s.new }
 {
-    let mut t = s;
-    t.phase = 0;
-    t
+    s.phase = 0;
 }
 
 // F, the one before a header write: all that it is to cover is down.
-pub fn flush_all(s: Store) -> Store
-    requires { (holds_together s ≡ true) × ((s.phase ≡ 0) × ((0 < s.pending.count) × ((dir_blocks s.pending.count < s.tail) × (s.committed.count ≤ s.migrated)))) }
-    ensures { StepDone (after_kind flush) s result }
+pub fn flush_all(s: &mut Store)
+    requires together { holds_together s.old ≡ true }
+    requires writing { s.old.phase ≡ 0 }
+    requires pending { 0 < s.old.pending.count }
+    requires tail_down { dir_blocks s.old.pending.count < s.old.tail }
+    requires all_home { s.old.committed.count ≤ s.old.migrated }
+    ensures { StepDone (after_kind flush) s.old s.new }
 {
-    let mut t = s;
-    t.phase = 1;
-    t
+    s.phase = 1;
 }
 
-// H: the header names the new commit number and its trailer.
-pub fn header_block(s: Store, card: &mut [u8]) -> Wrote
-    requires { Writable s card.old × ((waits s.pending ≡ 0) × (0 < s.pending.count)) }
-    ensures { KindDone header s card.old result card.new }
+// H: the header, in block 0, names the new commit number and its trailer.
+pub fn header_block(s: &mut Store, card: &mut [u8])
+    requires writable { Writable s.old card.old }
+    requires none_waits { waits s.old.pending ≡ 0 }
+    requires pending { 0 < s.old.pending.count }
+    ensures { KindDone header s.old card.old 0 s.new card.new }
 {
-    let first = place::pending_first(s);
     let end = s.pending.taken + (s.pending.count + 63) / 64;
-    let last = ring::at(s.geometry.area, first, end);
-    let g = s.geometry;
-    let bytes = header::block(s.commit + 1, last, g.area, &g.ranges, g.count);
+    let last = place::pending_ring(s).at(end);
+    let g = &s.geometry;
+    let bytes = header::block(s.commit + 1, last, g.area, &g.ranges[..2 * g.count]);
     block::put(card, 0, &bytes);
-    let t = commit(s);
-    Wrote { block: 0, store: t }
+    commit(s);
 }

@@ -1,136 +1,106 @@
-// The newest bytes of a frame: of current, pending, committed, home. An array is copied before it is searched: a record of which an element is looked up is copied whole.
-ghost use Rattle.std.specs.Prelude.{◌≡◌, true, ◌≤◌, ◌<◌, length};
+// The newest bytes of a frame: of current, pending, committed, home. What question 2 has told of the record stands in
+// each `requires`: any bytes may be a record, so that it can be no invariant of its type.
+ghost use Rattle.std.specs.Prelude.{◌≡◌, true, ◌+◌, ◌-◌, ◌≤◌, ◌<◌, length};
 ghost use Rattle.card.specs.Question.{first_no};
 ghost use Rattle.record.specs.Holds.{holds_together};
 ghost use Rattle.frames.specs.Promise.{common_asks, lent, Loads};
-ghost use Rattle.frames.specs.Parts.{Located, PartsHeld, PartsLent, CommittedBlock, CommittedShows, committed_bytes, pending_bytes, newest_bytes};
+ghost use Rattle.frames.specs.Parts.{Located, Readable, CommittedShows, committed_bytes, pending_bytes, newest_bytes, placed_at};
+ghost use Rattle.frames.specs.declared.answer.Place.TheVariants.{Card};
 
-use card_blocks::{block, number, ring};
-use frames::answer::Found;
+use card_blocks::block;
+use card_blocks::ring::Ring;
+use frames::answer::Place;
 use record::store::Store;
 use record_hold::place;
 use record_list::list;
 
-// The block that the committed generation has of a frame, in the area or home. It takes the parts of the record that it
-// looks at: a record that is handed on is copied.
-fn committed_block(
-    area: usize,
-    first: usize,
-    frames: &[u16; 256],
-    places: &[u8; 256],
-    count: usize,
-    frame: u16,
-) -> usize
-    requires { PartsHeld area first frames.now places.now count }
-    ensures { CommittedBlock area first frames.now places.now count frame result }
+// The block that the committed generation has of a frame, in the area or home.
+fn in_committed(s: &Store, frame: u16) -> usize
+    requires together { holds_together s.now ≡ true }
+    requires on_card { frame < s.now.geometry.blocks }
+    ensures { Located s.now (committed_bytes s.now frame) (Card result) }
 {
-    let i = list::find(frames, count, frame);
-    if i == count {
-        return number::from_short(frame);
-    }
-    ring::at(area, first, list::place_at(places, i))
-}
-
-fn in_committed(s: Store, frame: u16) -> Found
-    requires { (holds_together s ≡ true) × (frame < s.geometry.blocks) }
-    ensures { Located s (committed_bytes s frame) result }
-{
-    let frames = s.committed.frames;
-    let places = s.committed.places;
-    let to = committed_block(
-        s.geometry.area,
-        s.first,
-        &frames,
-        &places,
-        s.committed.count,
-        frame,
-    );
-    Found {
-        memory: false,
-        number: to,
+    let d = &s.committed;
+    match list::find(&d.frames[..d.count], frame) {
+        Ok(i) => place::committed_ring(s).at(usize::from(d.places[i])),
+        Err(_) => usize::from(frame),
     }
 }
 
-fn in_pending(s: Store, frame: u16) -> Found
-    requires { (holds_together s ≡ true) × ((frame < s.geometry.blocks) × (s.frames ≤ 64)) }
-    ensures { Located s (pending_bytes s frame) result }
+// Where a place's bytes are, in a generation of which `down` places are down and before whose waiting frames `ahead`
+// others wait.
+fn at_place(s: &Store, ring: Ring, down: usize, ahead: usize, place: usize) -> Place
+    requires head { s.now.head < s.now.frames }
+    requires inside { place ≤ ring.area }
+    requires few { s.now.frames ≤ 64 }
+    requires seated { down ≤ place → ahead + (place - down) ≤ s.now.frames }
+    ensures { result ≡ placed_at s.now ring.area ring.first down ahead place }
 {
-    let frames = s.pending.frames;
-    let i = list::find(&frames, s.pending.count, frame);
-    if i == s.pending.count {
-        return in_committed(s, frame);
+    if place < down {
+        return Place::Card(ring.at(place));
     }
-    let places = s.pending.places;
-    let place = list::place_at(&places, i);
-    if place < s.pending.down {
-        let first = place::pending_first(s);
-        let to = ring::at(s.geometry.area, first, place);
-        return Found {
-            memory: false,
-            number: to,
-        };
-    }
-    let seat = place::seat(s.frames, s.head, place - s.pending.down);
-    Found {
-        memory: true,
-        number: seat,
+    Place::Memory(place::seat(s, ahead + (place - down)))
+}
+
+fn in_pending(s: &Store, frame: u16) -> Place
+    requires together { holds_together s.now ≡ true }
+    requires on_card { frame < s.now.geometry.blocks }
+    requires few { s.now.frames ≤ 64 }
+    ensures { Located s.now (pending_bytes s.now frame) result }
+{
+    let g = &s.pending;
+    match list::find(&g.frames[..g.count], frame) {
+        Ok(i) => at_place(
+            s,
+            place::pending_ring(s),
+            g.down,
+            0,
+            usize::from(g.places[i]),
+        ),
+        Err(_) => Place::Card(in_committed(s, frame)),
     }
 }
 
 // Where the newest bytes of a frame are.
-fn newest(s: Store, frame: u16) -> Found
-    requires { (holds_together s ≡ true) × ((frame < s.geometry.blocks) × (s.frames ≤ 64)) }
-    ensures { Located s (newest_bytes s frame) result }
+fn newest(s: &Store, frame: u16) -> Place
+    requires together { holds_together s.now ≡ true }
+    requires on_card { frame < s.now.geometry.blocks }
+    requires few { s.now.frames ≤ 64 }
+    ensures { Located s.now (newest_bytes s.now frame) result }
 {
-    let frames = s.current.frames;
-    let i = list::find(&frames, s.current.count, frame);
-    if i == s.current.count {
-        return in_pending(s, frame);
-    }
-    let places = s.current.places;
-    let place = list::place_at(&places, i);
-    if place < s.current.down {
-        let first = place::current_first(s);
-        let to = ring::at(s.geometry.area, first, place);
-        return Found {
-            memory: false,
-            number: to,
-        };
-    }
-    let ahead = s.pending.taken - s.pending.down;
-    let seat = place::seat(s.frames, s.head, ahead + (place - s.current.down));
-    Found {
-        memory: true,
-        number: seat,
+    let g = &s.current;
+    match list::find(&g.frames[..g.count], frame) {
+        Ok(i) => {
+            let ahead = s.pending.taken - s.pending.down;
+            at_place(
+                s,
+                place::current_ring(s),
+                g.down,
+                ahead,
+                usize::from(g.places[i]),
+            )
+        }
+        Err(_) => in_pending(s, frame),
     }
 }
 
 // The newest bytes of a frame, as a part of memory or of the card.
-pub fn load<'a>(s: Store, card: &'a [u8], memory: &'a [u8], frame: usize) -> &'a [u8]
-    requires { (first_no (common_asks s (length memory.now) (length card.now)) ≡ 0) × (frame < s.geometry.blocks) }
-    ensures { Loads (lent s memory.now card.now) frame result.now × (length result.now ≡ 512) }
+pub fn load<'a>(s: &Store, card: &'a [u8], memory: &'a [u8], frame: usize) -> &'a [u8; 512]
+    requires asked { first_no (common_asks s.now (length memory.now) (length card.now)) ≡ 0 }
+    requires on_card { frame < s.now.geometry.blocks }
+    ensures { Loads (lent s.now memory.now card.now) frame result.now }
 {
-    let r = newest(s, number::short(frame));
-    let at = r.number;
-    if r.memory {
-        return block::at(memory, at);
+    match newest(s, frame as u16) {
+        Place::Memory(n) => block::at(memory, n),
+        Place::Card(n) => block::at(card, n),
     }
-    block::at(card, at)
 }
 
-// The bytes that the committed generation shows of a frame, as a part of the card; by the parts of the record too.
-pub fn committed<'a>(
-    area: usize,
-    first: usize,
-    frames: &[u16; 256],
-    places: &[u8; 256],
-    count: usize,
-    card: &'a [u8],
-    frame: usize,
-) -> &'a [u8]
-    requires { PartsLent area first frames.now places.now count card.now frame }
-    ensures { CommittedShows area first frames.now places.now count card.now frame result.now × (length result.now ≡ 512) }
+// The bytes that the committed generation shows of a frame, as a part of the card.
+pub fn committed<'a>(s: &Store, card: &'a [u8], frame: usize) -> &'a [u8; 512]
+    requires readable { Readable s.now card.now }
+    requires on_card { frame < s.now.geometry.blocks }
+    ensures { CommittedShows s.now card.now frame result.now }
 {
-    let at = committed_block(area, first, frames, places, count, number::short(frame));
-    block::at(card, at)
+    block::at(card, in_committed(s, frame as u16))
 }

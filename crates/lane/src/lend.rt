@@ -1,5 +1,6 @@
-// The calls with the record by value: each keeps the record in a local, lends it to a call over a lent record, and hands it back beside the answer.
-// A program that calls these is covered; one that lends the record itself is not.
+// The calls with the record by value: each keeps the record in a local, lends it to a call over a lent record, and hands
+// it back beside the answer. They are one for each call: of one function over a closure nothing would be known of the
+// card, memory or buffer that the closure borrows to change.
 ghost use Rattle.frames.specs.Promise.{lent, reported};
 ghost use Rattle.pages.specs.Call as call;
 ghost use Rattle.pages.specs.Promise.{answered, counted_as, foretold_as, Kept};
@@ -7,31 +8,25 @@ ghost use Rattle.record.specs.Meaning.{zero_store};
 ghost use Rattle.linked.specs.Linked.{number, filling, Linked};
 
 use super::call;
-use frames::answer::{Advanced, Done};
-use linked::answer::{Counted, Forecasted};
+use card::refusal::Refusal;
+use frames::answer::{Advance, Done};
 use record::store::Store;
 
 // The record that is handed in is not read.
-pub fn start(s: Store, card: &[u8], memory: &[u8]) -> Done
+pub fn start(s: Store, card: &[u8], memory: &[u8]) -> Done<u32>
     ensures { Linked (call.start memory.now) (lent zero_store memory.now card.now) (number result.answer) (lent result.store memory.now card.now) }
 {
-    let mut t = s;
-    let c = call::lane_start(&mut t, card, memory);
-    Done {
-        answer: c,
-        store: t,
-    }
+    let mut store = s;
+    let answer = call::lane_start(&mut store, card, memory);
+    Done { answer, store }
 }
 
-pub fn key<'a>(s: Store, card: &'a [u8], memory: &'a [u8], oid: u32) -> Counted
+pub fn key<'a>(s: Store, card: &'a [u8], memory: &'a [u8], oid: u32) -> Done<Result<u32, Refusal>>
     ensures { Kept (call.on oid call.key) (lent s memory.now card.now) (counted_as result.answer) (lent result.store memory.now card.now) }
 {
-    let mut t = s;
-    let c = call::key(&mut t, card, memory, oid);
-    Counted {
-        answer: c,
-        store: t,
-    }
+    let mut store = s;
+    let answer = call::key(&mut store, card, memory, oid);
+    Done { answer, store }
 }
 
 pub fn read<'a>(
@@ -41,16 +36,13 @@ pub fn read<'a>(
     oid: u32,
     count: u32,
     buffer: &mut [u8],
-) -> Done
+) -> Done<u32>
     ensures { Linked (call.on oid (call.read count buffer.old)) (lent s memory.now card.now) (filling result.answer buffer.new)
         (lent result.store memory.now card.now) }
 {
-    let mut t = s;
-    let c = call::lane_read(&mut t, card, memory, oid, count, buffer);
-    Done {
-        answer: c,
-        store: t,
-    }
+    let mut store = s;
+    let answer = call::lane_read(&mut store, card, memory, oid, count, buffer);
+    Done { answer, store }
 }
 
 pub fn write(
@@ -61,68 +53,50 @@ pub fn write(
     count: u32,
     at: usize,
     new: &[u8],
-) -> Done
+) -> Done<u32>
     ensures { Linked (call.on oid (call.write count at new.now)) (lent s memory.old card.now) (number result.answer) (lent result.store memory.new card.now) }
 {
-    let mut t = s;
-    let c = call::lane_write(&mut t, card, memory, oid, count, at, new);
-    Done {
-        answer: c,
-        store: t,
-    }
+    let mut store = s;
+    let answer = call::lane_write(&mut store, card, memory, oid, count, at, new);
+    Done { answer, store }
 }
 
-pub fn rescind(s: Store, card: &[u8], memory: &mut [u8], oid: u32, count: u32) -> Done
+pub fn rescind(s: Store, card: &[u8], memory: &mut [u8], oid: u32, count: u32) -> Done<u32>
     ensures { Linked (call.on oid (call.rescind count)) (lent s memory.old card.now) (number result.answer) (lent result.store memory.new card.now) }
 {
-    let mut t = s;
-    let c = call::lane_rescind(&mut t, card, memory, oid, count);
-    Done {
-        answer: c,
-        store: t,
-    }
+    let mut store = s;
+    let answer = call::lane_rescind(&mut store, card, memory, oid, count);
+    Done { answer, store }
 }
 
-pub fn snapshot(s: Store, card: &[u8], memory: &[u8]) -> Done
+pub fn snapshot(s: Store, card: &[u8], memory: &[u8]) -> Done<u32>
     ensures { Linked call.snapshot (lent s memory.now card.now) (number result.answer) (lent result.store memory.now card.now) }
 {
-    let mut t = s;
-    let c = call::lane_snapshot(&mut t, card, memory);
-    Done {
-        answer: c,
-        store: t,
-    }
+    let mut store = s;
+    let answer = call::lane_snapshot(&mut store, card, memory);
+    Done { answer, store }
 }
 
-pub fn page_out(s: Store, card: &mut [u8], memory: &[u8]) -> Advanced
+pub fn page_out(s: Store, card: &mut [u8], memory: &[u8]) -> Done<Result<Advance, Refusal>>
     ensures { Kept call.page_out (lent s memory.now card.old) (answered (reported result.answer)) (lent result.store memory.now card.new) }
 {
-    let mut t = s;
-    let c = call::page_out(&mut t, card, memory);
-    Advanced {
-        answer: c,
-        store: t,
-    }
+    let mut store = s;
+    let answer = call::page_out(&mut store, card, memory);
+    Done { answer, store }
 }
 
-pub fn advance(s: Store, card: &mut [u8], memory: &[u8]) -> Advanced
+pub fn advance(s: Store, card: &mut [u8], memory: &[u8]) -> Done<Result<Advance, Refusal>>
     ensures { Kept call.advance (lent s memory.now card.old) (answered (reported result.answer)) (lent result.store memory.now card.new) }
 {
-    let mut t = s;
-    let c = call::advance(&mut t, card, memory);
-    Advanced {
-        answer: c,
-        store: t,
-    }
+    let mut store = s;
+    let answer = call::advance(&mut store, card, memory);
+    Done { answer, store }
 }
 
-pub fn forecast(s: Store, card: &[u8], memory: &[u8]) -> Forecasted
+pub fn forecast(s: Store, card: &[u8], memory: &[u8]) -> Done<Result<u32, Refusal>>
     ensures { Kept call.forecast (lent s memory.now card.now) (foretold_as result.answer) (lent result.store memory.now card.now) }
 {
-    let mut t = s;
-    let c = call::forecast(&mut t, card, memory);
-    Forecasted {
-        answer: c,
-        store: t,
-    }
+    let mut store = s;
+    let answer = call::forecast(&mut store, card, memory);
+    Done { answer, store }
 }

@@ -40,8 +40,8 @@ pub extern "C" fn lane_key<'s, 'a>(
     memory: &'a [u8],
     oid: u32,
 ) -> Present
-    ensures { Linked (call.on oid call.key) (lent s.old memory.now card.now) (present result.refusal result.count) (lent s.new memory.now card.now)
-        × (s.new ≡ s.old) }
+    ensures linked { Linked (call.on oid call.key) (lent s.old memory.now card.now) (present result.refusal result.count) (lent s.new memory.now card.now) }
+    ensures same { s.new ≡ s.old }
 {
     lane::call::lane_key(s, card, memory, oid)
 }
@@ -55,8 +55,9 @@ pub extern "C" fn lane_read<'s, 'a, 'b>(
     count: u32,
     buffer: &'b mut [u8],
 ) -> u32
-    ensures { Linked (call.on oid (call.read count buffer.old)) (lent s.old memory.now card.now) (filling result buffer.new)
-        (lent s.new memory.now card.now) × (s.new ≡ s.old) }
+    ensures linked { Linked (call.on oid (call.read count buffer.old)) (lent s.old memory.now card.now) (filling result buffer.new)
+        (lent s.new memory.now card.now) }
+    ensures same { s.new ≡ s.old }
 {
     lane::call::lane_read(s, card, memory, oid, count, buffer)
 }
@@ -112,8 +113,8 @@ pub extern "C" fn lane_advance(s: &mut Store, card: &mut [u8], memory: &[u8]) ->
 
 #[unsafe(no_mangle)]
 pub extern "C" fn lane_forecast(s: &mut Store, card: &[u8], memory: &[u8]) -> Foretold
-    ensures { Linked call.forecast (lent s.old memory.now card.now) (foretelling result.refusal result.advances) (lent s.new memory.now card.now)
-        × (s.new ≡ s.old) }
+    ensures linked { Linked call.forecast (lent s.old memory.now card.now) (foretelling result.refusal result.advances) (lent s.new memory.now card.now) }
+    ensures same { s.new ≡ s.old }
 {
     lane::call::lane_forecast(s, card, memory)
 }

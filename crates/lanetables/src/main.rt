@@ -6,8 +6,9 @@
 
 mod call;
 mod play;
+mod word;
 
-ghost use Rattle.std.specs.Prelude.{◌≤◌, ◌<◌, length, IfOk};
+ghost use Rattle.std.specs.Prelude.{◌≤◌, length, IfOk};
 
 use std::io;
 use std::io::{Read, Write};
@@ -15,35 +16,25 @@ use std::io::{Read, Write};
 // One case: a name, a colon, a space and steps.
 fn run(rt: &impl Print, line: &[u8]) -> io::Result<()> {
     let colon = script::until(line, 0, b':');
-    io::writer(rt).write_all(&line[0..colon])?;
-    let from = colon + 2;
-    if from <= line.len() {
-        play::play(rt, &line[from..])?;
+    io::writer(rt).write_all(&line[..colon])?;
+    if let Some(steps) = line.get(colon + 2..) {
+        play::play(rt, steps)?;
     }
     println!(rt)
 }
 
-// The line that begins at `at`, and where the next one begins. A line that begins with # is a comment.
-fn next(rt: &impl Print, text: &[u8], at: usize) -> io::Result<usize>
-    requires { at < length text.now }
-    ensures { IfOk result (λ end. at < end) }
-{
-    let end = script::until(text, at, b'\n');
-    if text[at] != b'#' {
-        run(rt, &text[at..end])?;
-    }
-    Ok(end + 1)
-}
-
+// A line for each case. One that begins with # is a comment.
 fn all(rt: &impl Print, text: &[u8]) -> io::Result<()> {
-    let mut at = 0;
-    while at < text.len() {
-        at = next(rt, text, at)?;
+    for line in text.split_inclusive(|b| *b == b'\n') {
+        if !line.starts_with(b"#") {
+            run(rt, line.strip_suffix(b"\n").unwrap_or(line))?;
+        }
     }
     Ok(())
 }
 
-// Fills a buffer from standard input, or as much of it as comes; tells how much.
+// Fills a buffer from standard input, or as much of it as comes; tells how much. There is no heap, so the text cannot
+// grow as it is read; and a read may give less than is to come.
 fn read_full(rt: &impl Input, text: &mut [u8]) -> io::Result<usize>
     ensures { IfOk result (λ count. count ≤ length text.new) }
 {

@@ -5,20 +5,18 @@ use borrow.Author.Tests.{eqb-true}
 use lib.Dec.{eqb}
 use mathlib.Core.List.{List}
 use mathlib.Core.Path.{◌≡◌, refl, ap, sym, ◌∙◌}
+use Rattle.std.specs.Prelude.{Result, Ok, Err}
 use Rattle.card.proofs.Test.{by_test}
-use Rattle.frames.specs.Promise.{Lent, FrameAnswer, numbered, reported}
+use Rattle.card.specs.declared.refusal.Refusal.{Refusal}
+use Rattle.frames.specs.Promise.{Lent, FrameAnswer, numbered, written, reported}
 use Rattle.frames.specs.declared.answer.Advance.{Advance}
-use Rattle.frames.specs.declared.answer.Advance.TheVariants.{P, D, T, M, H, F, Refused}
+use Rattle.frames.specs.declared.answer.Advance.TheVariants.{P, D, T, M, H, F}
 use Rattle.linked.specs.Linked.{number, filling, present, foretelling, report, present_of, foretold_of, report_of, kind_number, number_of, count_of, advances_of, bytes_of, kind_of, block_of, page_reply, reply_of, Linked}
 use Rattle.linked.specs.declared.answer.Foretold.{Foretold}
 use Rattle.linked.specs.declared.answer.Present.{Present}
 use Rattle.linked.specs.declared.answer.Report.{Report}
 use Rattle.pages.specs.Call.{key, read, write, rescind, Call, start, on, snapshot, page_out, advance, forecast, filled}
 use Rattle.pages.specs.Promise.{answered, counted_as, foretold_as, Kept}
-use Rattle.pages.specs.declared.answer.Count.{Count}
-use Rattle.pages.specs.declared.answer.Count.TheVariants as Counts
-use Rattle.pages.specs.declared.answer.Forecast.{Forecast}
-use Rattle.pages.specs.declared.answer.Forecast.TheVariants as Forecasts
 
 -- ---- each kind of answer
 
@@ -26,25 +24,25 @@ as_number : (n : ℕ) → n ≡ number_of (answered (numbered n))
 unfolding answered numbered number_of
 as_number n = by_test (λ (a : FrameAnswer). n ≡ number_of (answered a)) (eqb n 0) (λ e. eqb-true n 0 e) (λ e. refl)
 
-as_present : (c : Count) → present (present_of c).refusal (present_of c).count ≡ present (number_of (counted_as c)) (count_of (counted_as c))
-unfolding counted_as present_of number_of count_of
-as_present (Counts.Present n) = refl
-as_present (Counts.Refused n) = refl
+as_present : (c : Result ℕ Refusal) → present (present_of c).refusal (present_of c).count ≡ present (number_of (counted_as c)) (count_of (counted_as c))
+unfolding counted_as number_of count_of
+as_present (Ok n) = refl
+as_present (Err n) = refl
 
-as_foretold : (f : Forecast) → foretelling (foretold_of f).refusal (foretold_of f).advances ≡ foretelling (number_of (foretold_as f)) (advances_of (foretold_as f))
-unfolding foretold_as foretold_of number_of advances_of
-as_foretold (Forecasts.Advances n) = refl
-as_foretold (Forecasts.Refused n) = refl
+as_foretold : (f : Result ℕ Refusal) → foretelling (foretold_of f).refusal (foretold_of f).advances ≡ foretelling (number_of (foretold_as f)) (advances_of (foretold_as f))
+unfolding foretold_as number_of advances_of
+as_foretold (Ok n) = refl
+as_foretold (Err n) = refl
 
-as_report : (a : Advance) → report (report_of a).kind (report_of a).refusal (report_of a).block ≡ reply_of advance (answered (reported a))
-unfolding reply_of reported answered report_of kind_of kind_number number_of block_of
-as_report (P b) = refl
-as_report (D b) = refl
-as_report (T b) = refl
-as_report (M b) = refl
-as_report (H b) = refl
-as_report (F b) = refl
-as_report (Refused n) = refl
+as_report : (a : Result Advance Refusal) → report (report_of a).kind (report_of a).refusal (report_of a).block ≡ reply_of advance (answered (reported a))
+unfolding reply_of reported written answered kind_of kind_number number_of block_of
+as_report (Ok (P b)) = refl
+as_report (Ok (D b)) = refl
+as_report (Ok (T b)) = refl
+as_report (Ok (M b)) = refl
+as_report (Ok (H b)) = refl
+as_report (Ok (F b)) = refl
+as_report (Err n) = refl
 
 -- ---- a kept promise, linked
 
@@ -73,20 +71,20 @@ pub linked_read : (o k : ℕ) (x : List ℕ) (l l' : Lent) (n : ℕ) (b : List �
 unfolding reply_of page_reply number_of bytes_of
 linked_read o k x l l' n b p = record { answer = _; in_numbers = refl; kept = p }
 
-pub linked_key : (o : ℕ) (l l' : Lent) (a : Count) (r : Present) → r ≡ present_of a → Kept (on o key) l (counted_as a) l' → Linked (on o key) l (present r.refusal r.count) l'
+pub linked_key : (o : ℕ) (l l' : Lent) (a : Result ℕ Refusal) (r : Present) → r ≡ present_of a → Kept (on o key) l (counted_as a) l' → Linked (on o key) l (present r.refusal r.count) l'
 unfolding reply_of page_reply
 linked_key o l l' a r e k = record { answer = _; in_numbers = ap (λ (x : Present). present x.refusal x.count) e ∙ as_present a; kept = k }
 
-pub linked_forecast : (l l' : Lent) (f : Forecast) (r : Foretold) → r ≡ foretold_of f → Kept forecast l (foretold_as f) l' → Linked forecast l (foretelling r.refusal r.advances) l'
+pub linked_forecast : (l l' : Lent) (f : Result ℕ Refusal) (r : Foretold) → r ≡ foretold_of f → Kept forecast l (foretold_as f) l' → Linked forecast l (foretelling r.refusal r.advances) l'
 unfolding reply_of
 linked_forecast l l' f r e k = record { answer = _; in_numbers = ap (λ (x : Foretold). foretelling x.refusal x.advances) e ∙ as_foretold f; kept = k }
 
 -- of a call that reports a block
-linked_report : (c : Call) (l l' : Lent) (a : Advance) (r : Report) → reply_of c (answered (reported a)) ≡ reply_of advance (answered (reported a)) → r ≡ report_of a
+linked_report : (c : Call) (l l' : Lent) (a : Result Advance Refusal) (r : Report) → reply_of c (answered (reported a)) ≡ reply_of advance (answered (reported a)) → r ≡ report_of a
     → Kept c l (answered (reported a)) l' → Linked c l (report r.kind r.refusal r.block) l'
 linked_report c l l' a r writes e k = record { answer = _; in_numbers = ap (λ (x : Report). report x.kind x.refusal x.block) e ∙ (as_report a ∙ sym writes); kept = k }
 
-module _ (l l' : Lent) (a : Advance) (r : Report) (e : r ≡ report_of a) where
+module _ (l l' : Lent) (a : Result Advance Refusal) (r : Report) (e : r ≡ report_of a) where
   pub linked_page_out : Kept page_out l (answered (reported a)) l' → Linked page_out l (report r.kind r.refusal r.block) l'
   unfolding reply_of
   linked_page_out k = linked_report page_out l l' a r refl e k

@@ -4,7 +4,9 @@
 use Prim.Native.Nat.{ℕ}
 use mathlib.Core.List.{List}
 use mathlib.Core.Path.{◌≡◌, refl}
-use Rattle.frames.specs.declared.answer.Advance.TheVariants.{P, D, T, M, H, F, Refused}
+use Rattle.std.specs.Prelude.{Ok, Err}
+use Rattle.card.specs.declared.refusal.Refusal.TheVariants.{Card, Outside, NoneDue}
+use Rattle.frames.specs.declared.answer.Advance.TheVariants.{P, D, T, M, H, F}
 use Rattle.linked.specs.Demands.{refusal_of}
 use Rattle.linked.specs.Linked.{filling, present, foretelling, report, present_of, foretold_of, report_of, kind_number, number_of, count_of, advances_of, bytes_of, kind_of, block_of, page_reply, reply_of}
 use Rattle.linked.specs.declared.answer.Foretold.{Foretold}
@@ -13,8 +15,6 @@ use Rattle.linked.specs.declared.answer.Report.{Report}
 use Rattle.pages.specs.Call.{PageCall, key, read, write, rescind, Call, start, on, snapshot, page_out, advance, forecast, refused, counted, filled, wrote, foretold, page_answer, page_refusal}
 use Rattle.pages.specs.Page.{Page}
 use Rattle.pages.specs.Promise.{refusal}
-use Rattle.pages.specs.declared.answer.Count.TheVariants as Counts
-use Rattle.pages.specs.declared.answer.Forecast.TheVariants as Forecasts
 use Rattle.recovery.specs.Step.{page, header, flush}
 
 abbrev reported : (kind refusal block : ℕ) → Report
@@ -27,18 +27,15 @@ abbrev ahead : (refusal advances : ℕ) → Foretold
 ahead r n = record { refusal = r; advances = n }
 
 -- the structs: each kind with block 9, F with block 0, a refusal; a count and a refused key; a forecast and a refused one
-pub report_fields : (report_of (P 9) ≡ reported 1 0 9) × (report_of (D 9) ≡ reported 2 0 9) × (report_of (T 9) ≡ reported 3 0 9)
-    × (report_of (M 9) ≡ reported 4 0 9) × (report_of (H 0) ≡ reported 5 0 0) × (report_of (F 0) ≡ reported 6 0 0)
-    × (report_of (Refused 20) ≡ reported 0 20 0)
-unfolding report_of
+pub report_fields : (report_of (Ok (P 9)) ≡ reported 1 0 9) × (report_of (Ok (D 9)) ≡ reported 2 0 9) × (report_of (Ok (T 9)) ≡ reported 3 0 9)
+    × (report_of (Ok (M 9)) ≡ reported 4 0 9) × (report_of (Ok (H 0)) ≡ reported 5 0 0) × (report_of (Ok (F 0)) ≡ reported 6 0 0)
+    × (report_of (Err NoneDue) ≡ reported 0 20 0)
 report_fields = (refl, refl, refl, refl, refl, refl, refl)
 
-pub present_fields : (present_of (Counts.Present 7) ≡ told 0 7) × (present_of (Counts.Refused 9) ≡ told 9 0)
-unfolding present_of
+pub present_fields : (present_of (Ok 7) ≡ told 0 7) × (present_of (Err Outside) ≡ told 9 0)
 present_fields = (refl, refl)
 
-pub foretold_fields : (foretold_of (Forecasts.Advances 8) ≡ ahead 0 8) × (foretold_of (Forecasts.Refused 3) ≡ ahead 3 0)
-unfolding foretold_of
+pub foretold_fields : (foretold_of (Ok 8) ≡ ahead 0 8) × (foretold_of (Err Card) ≡ ahead 3 0)
 foretold_fields = (refl, refl)
 
 -- the replies of the two demands

@@ -1,18 +1,16 @@
 -- The linked calls: the calls of the page layer over a record that is lent, with their answers in numbers.
 -- Assumes nothing.
-use Rattle.std.specs.Prelude.{ℕ, List, [], ◌≡◌}
+use Rattle.std.specs.Prelude.{ℕ, List, [], ◌≡◌, Result, Ok, Err}
+use Rattle.card.specs.Refusal as refusals
+use Rattle.card.specs.declared.refusal.Refusal.{Refusal}
 use Rattle.frames.specs.Promise.{Lent}
 use Rattle.frames.specs.declared.answer.Advance.{Advance}
-use Rattle.frames.specs.declared.answer.Advance.TheVariants.{P, D, T, M, H, F, Refused}
+use Rattle.frames.specs.declared.answer.Advance.TheVariants.{P, D, T, M, H, F}
 use Rattle.linked.specs.declared.answer.Foretold.{Foretold}
 use Rattle.linked.specs.declared.answer.Present.{Present}
 use Rattle.linked.specs.declared.answer.Report.{Report}
 use Rattle.pages.specs.Call.{PageCall, key, read, write, rescind, Call, start, on, snapshot, page_out, advance, forecast, Answer, refused, done, counted, filled, wrote, foretold}
 use Rattle.pages.specs.Promise.{Kept}
-use Rattle.pages.specs.declared.answer.Count.{Count}
-use Rattle.pages.specs.declared.answer.Count.TheVariants as Counts
-use Rattle.pages.specs.declared.answer.Forecast.{Forecast}
-use Rattle.pages.specs.declared.answer.Forecast.TheVariants as Forecasts
 use Rattle.recovery.specs.Step.{Kind, page, directory, trailer, migration, header, flush}
 
 -- the version of the linked interface, as include/lane.h has it: raised when the record's form, an answer or a call's
@@ -29,23 +27,23 @@ pub data Reply : Type 0 where
   foretelling : (refusal advances : ℕ) → Reply
   report : (kind refusal block : ℕ) → Reply
 
--- the enums' cases in numbers
-unfoldable pub present_of : Count → Present
-present_of (Counts.Present n) = record { refusal = 0; count = n }
-present_of (Counts.Refused n) = record { refusal = n; count = 0 }
+-- the answers' cases in numbers
+abbrev pub present_of : Result ℕ Refusal → Present
+present_of (Ok n) = record { refusal = 0; count = n }
+present_of (Err r) = record { refusal = refusals.number r; count = 0 }
 
-unfoldable pub foretold_of : Forecast → Foretold
-foretold_of (Forecasts.Advances n) = record { refusal = 0; advances = n }
-foretold_of (Forecasts.Refused n) = record { refusal = n; advances = 0 }
+abbrev pub foretold_of : Result ℕ Refusal → Foretold
+foretold_of (Ok n) = record { refusal = 0; advances = n }
+foretold_of (Err r) = record { refusal = refusals.number r; advances = 0 }
 
-unfoldable pub report_of : Advance → Report
-report_of (P b) = record { kind = 1; refusal = 0; block = b }
-report_of (D b) = record { kind = 2; refusal = 0; block = b }
-report_of (T b) = record { kind = 3; refusal = 0; block = b }
-report_of (M b) = record { kind = 4; refusal = 0; block = b }
-report_of (H b) = record { kind = 5; refusal = 0; block = b }
-report_of (F b) = record { kind = 6; refusal = 0; block = b }
-report_of (Refused n) = record { kind = 0; refusal = n; block = 0 }
+abbrev pub report_of : Result Advance Refusal → Report
+report_of (Ok (P b)) = record { kind = 1; refusal = 0; block = b }
+report_of (Ok (D b)) = record { kind = 2; refusal = 0; block = b }
+report_of (Ok (T b)) = record { kind = 3; refusal = 0; block = b }
+report_of (Ok (M b)) = record { kind = 4; refusal = 0; block = b }
+report_of (Ok (H b)) = record { kind = 5; refusal = 0; block = b }
+report_of (Ok (F b)) = record { kind = 6; refusal = 0; block = b }
+report_of (Err r) = record { kind = 0; refusal = refusals.number r; block = 0 }
 
 unfoldable pub kind_number : Kind → ℕ
 kind_number page = 1

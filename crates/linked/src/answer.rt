@@ -1,6 +1,9 @@
-// Answers in numbers, for C: an exported function hands back no enum. And answers beside the record.
-use pages::answer::{Count, Forecast};
-use record::store::Store;
+// Answers in numbers, for C: an exported function hands back no enum.
+ghost use Rattle.std.specs.Prelude.{◌≡◌};
+ghost use Rattle.linked.specs.Linked.{present_of, foretold_of, report_of};
+
+use card::refusal::Refusal;
+use frames::answer::Advance;
 
 // Key's: refusal 0 and the count, or the number of the question that was answered "no", and count 0.
 #[repr(C)]
@@ -28,21 +31,60 @@ pub struct Report {
     pub block: usize,
 }
 
-// Of a lender, beside the record.
-#[derive(Clone, Copy)]
-pub struct Counted {
-    pub answer: Count,
-    pub store: Store,
+impl From<Result<u32, Refusal>> for Present {
+    ghost from_gives = { λ a r. r ≡ present_of a };
+
+    fn from(answer: Result<u32, Refusal>) -> Present {
+        match answer {
+            Ok(count) => Present { refusal: 0, count },
+            Err(no) => Present {
+                refusal: no.into(),
+                count: 0,
+            },
+        }
+    }
 }
 
-#[derive(Clone, Copy)]
-pub struct Forecasted {
-    pub answer: Forecast,
-    pub store: Store,
+impl From<Result<u32, Refusal>> for Foretold {
+    ghost from_gives = { λ a r. r ≡ foretold_of a };
+
+    fn from(answer: Result<u32, Refusal>) -> Foretold {
+        match answer {
+            Ok(advances) => Foretold {
+                refusal: 0,
+                advances,
+            },
+            Err(no) => Foretold {
+                refusal: no.into(),
+                advances: 0,
+            },
+        }
+    }
 }
 
-#[derive(Clone, Copy)]
-pub struct Reported {
-    pub answer: Report,
-    pub store: Store,
+impl From<Result<Advance, Refusal>> for Report {
+    ghost from_gives = { λ a r. r ≡ report_of a };
+
+    fn from(answer: Result<Advance, Refusal>) -> Report {
+        let (kind, block) = match answer {
+            Ok(Advance::P(block)) => (1, block),
+            Ok(Advance::D(block)) => (2, block),
+            Ok(Advance::T(block)) => (3, block),
+            Ok(Advance::M(block)) => (4, block),
+            Ok(Advance::H(block)) => (5, block),
+            Ok(Advance::F(block)) => (6, block),
+            Err(no) => {
+                return Report {
+                    kind: 0,
+                    refusal: no.into(),
+                    block: 0,
+                };
+            }
+        };
+        Report {
+            kind,
+            refusal: 0,
+            block,
+        }
+    }
 }

@@ -10,14 +10,13 @@ use mathlib.Core.Logic.{◌≢◌}
 use mathlib.Core.Option.{none}
 use mathlib.Core.Path.{◌≡◌, refl, ap, sym, ◌∙◌, subst}
 use native.Mathlib.Omega.{arith}
+use Rattle.card.specs.Range.{Lookup, Located, Gap, Outside}
 use Rattle.card.proofs.AllLaws.{all_map}
 use Rattle.card.proofs.QuestionLaws.{none_asked, asked_yes, asked_no, groups_passed}
 use Rattle.card.proofs.Test.{by_test}
 use Rattle.card.specs.Bytes.{All}
 use Rattle.card.specs.Question.{Question, first_no}
 use Rattle.card.specs.declared.range.Address.{Address}
-use Rattle.card.specs.declared.range.Lookup.{Lookup}
-use Rattle.card.specs.declared.range.Lookup.TheVariants.{Located, Gap, Outside}
 use Rattle.frames.proofs.KeepLaws.{outcome-done, outcome_refused, keeps_refused, keeps_done, done_tells, refused_tells, back_card, back_memory}
 use Rattle.frames.proofs.ReadyLaws.{common_passed, common_both}
 use Rattle.frames.specs.Promise.{Lent, meaning_of, common, FrameAnswer, FrameKept}

@@ -9,25 +9,25 @@ use mathlib.Core.List.{List, [], ◌∷◌, ◌++◌}
 use mathlib.Core.Logic.{◌≢◌}
 use mathlib.Core.Path.{◌≡◌, refl, ap, sym, ◌∙◌, subst}
 use native.Mathlib.Omega.{arith}
+use Rattle.std.specs.Prelude.{Ok, Err}
+use Rattle.card.specs.Refusal.{number}
+use Rattle.card.specs.declared.refusal.Refusal.{Refusal}
+use Rattle.card.specs.Range.{Located}
 use Rattle.card.specs.Bytes.{patch}
 use Rattle.card.specs.Pot.{count_at, flags_at, put_flags, is_zero, clear_zero}
 use Rattle.card.specs.Question.{Question, first_no}
 use Rattle.card.specs.declared.range.Address.{Address}
-use Rattle.card.specs.declared.range.Lookup.TheVariants.{Located}
 use Rattle.frames.proofs.KeepLaws.{numbered_no, numbered-done}
 use Rattle.frames.proofs.ReadyLaws.{common_passed, common_refused, ready}
 use Rattle.frames.specs.Parts.{frames_with, ChangeKept, Foretells}
 use Rattle.frames.specs.Promise.{Lent, lent, meaning_of, common, FrameAnswer, FrameKept, numbered}
-use Rattle.frames.specs.declared.answer.Done.{Done}
 use Rattle.pages.proofs.AnswerLaws.{change_none, keeps_no, keeps_same, lifted}
 use Rattle.pages.proofs.EditLaws.{frames_one}
-use Rattle.pages.proofs.NamedLaws.{Found, found_together, one_frame, two_frames, Stops, rest_asked, present_count, key_asks, Keyed, keyed_asks}
+use Rattle.pages.proofs.NamedLaws.{positive, Found, found_together, one_frame, two_frames, Stops, rest_asked, present_count, key_asks, Keyed, keyed_asks}
 use Rattle.pages.specs.Call.{PageCall, key, read, write, rescind, start, on, snapshot, page_out, advance, forecast, refused, done, counted, filled, page_asks, edits, page_answer, page_refusal}
 use Rattle.pages.specs.Change.{put, empty, write_frames, rescind_pot, changed_frames, at_place, edit_frames}
 use Rattle.pages.specs.Page.{page_bytes, page_of}
 use Rattle.pages.specs.Promise.{answered, counted_as, foretold_as, address_of, present_frames, present_page, call_frames, asks, frame_call, done_answer, refusal, Kept, over, passed_of}
-use Rattle.pages.specs.declared.answer.Count.TheVariants.{Present, Refused}
-use Rattle.pages.specs.declared.answer.Forecast.TheVariants as Forecasts
 use Rattle.record.specs.declared.store.Store.{Store}
 use Rattle.recovery.specs.Contents.{FrameBytes}
 use Rattle.recovery.specs.Questions.{room_asks}
@@ -54,21 +54,21 @@ module _ (l l' : Lent) (a : FrameAnswer) where
   advance_kept k = lifted advance l l' a k refl refl (λ n. refl)
 
 -- advance asks 1 to 3 itself, and tells the frame layer how many entries are home or passed over
-pub advance_refused : (l : Lent) (n : ℕ) → n ≡ first_no (common l) → n ≢ 0 → Kept advance l (answered (frames.refused n)) l
+pub advance_refused : (l : Lent) (r : Refusal) → number r ≡ first_no (common l) → Kept advance l (answered (frames.refused (number r))) l
 unfolding asks frame_call refusal answered
-advance_refused l n e z = keeps_no advance l n (common_refused l.store (length l.memory) (length l.card) _ (λ q. z (e ∙ q)) ∙ sym e) z
+advance_refused l r e = keeps_no advance l (number r) (common_refused l.store (length l.memory) (length l.card) _ (λ q. positive r (e ∙ q)) ∙ sym e) (positive r)
 
 pub advance_kept_by : (l l' : Lent) (a : FrameAnswer) (n : ℕ) → n ≡ passed_of l → FrameKept (frames.advance n) l a l' → Kept advance l (answered a) l'
 advance_kept_by l l' a n e k = advance_kept l l' a (subst (λ (m : ℕ). FrameKept (frames.advance m) l a l') e k)
 
 -- ---- forecast
 
-pub forecast_refused : (l : Lent) (n : ℕ) → n ≡ first_no (common l) → n ≢ 0 → Kept forecast l (foretold_as (Forecasts.Refused n)) l
+pub forecast_refused : (l : Lent) (r : Refusal) → number r ≡ first_no (common l) → Kept forecast l (foretold_as (Err r)) l
 unfolding asks frame_call refusal foretold_as
-forecast_refused l n e z = keeps_no forecast l n (sym e) z
+forecast_refused l r e = keeps_no forecast l (number r) (sym e) (positive r)
 
 pub forecast-done : (l : Lent) (n : ℕ) → first_no (common l) ≡ 0 → (moves : ℕ) → (0 < l.store.pending.count → moves ≡ sums.moves_left (over l) (meaning_of l)) → Foretells l.store moves n
-    → Kept forecast l (foretold_as (Forecasts.Advances n)) l
+    → Kept forecast l (foretold_as (Ok n)) l
 unfolding foretold_as done_answer
 forecast-done l n h moves e f = rw (f (over l) l.memory e)
     (keeps_same forecast l (unfold asks in h) (unfold frame_call in refl) (ready l.store (length l.memory) (length l.card) h).together)
@@ -112,11 +112,11 @@ looked l o c none f e = keeps_same (on o c) l (e ∙ rw none (change_none (meani
 -- ---- key
 
 module _ (l : Lent) (o : ℕ) where
-  pub key_refused : {n : ℕ} → Stops l o (λ p. rest_asks o key l) n → Kept (on o key) l (counted_as (Refused n)) l
+  pub key_refused : (r : Refusal) → Stops l o (λ p. rest_asks o key l) (number r) → Kept (on o key) l (counted_as (Err r)) l
   unfolding asks page_asks frame_call refusal page_refusal counted_as
-  key_refused {n} q = keeps_no (on o key) l n q.number_is q.some
+  key_refused r q = keeps_no (on o key) l (number r) q.number_is q.some
 
-  pub key_done : (p : Address) → Found l o p → {pot : List ℕ} → pot ≡ present_frames l p.pot → {count : ℕ} → count ≡ count_at pot p.entry → Kept (on o key) l (counted_as (Present count)) l
+  pub key_done : (p : Address) → Found l o p → {pot : List ℕ} → pot ≡ present_frames l p.pot → {count : ℕ} → count ≡ count_at pot p.entry → Kept (on o key) l (counted_as (Ok count)) l
   unfolding asks page_asks done_answer page_answer counted_as at_place page_of
   key_done p f pot_is {count} count_is =
       let answer : done_answer (on o key) l ≡ counted count = rw f.place_is (ap counted (sym (count_is ∙ ap (λ (x : List ℕ). count_at x p.entry) pot_is))) in
@@ -143,10 +143,10 @@ answered-done = rw numbered-done
 
 module _ (l : Lent) (o : ℕ) (c : PageCall) (numbers : (n : ℕ) → page_refusal c n ≡ refused n) where
   -- refused: all is as it was
-  on_refused : {n : ℕ} → Stops l o (λ p. page_asks c (present_page l p) ++ rest_asks o c l) n → {d : Done} → (d.answer ≡ n) × (d.store ≡ l.store)
-      → Kept (on o c) l (answered (numbered d.answer)) (lent d.store l.memory l.card)
+  on_refused : (n : ℕ) → Stops l o (λ p. page_asks c (present_page l p) ++ rest_asks o c l) n
+      → Kept (on o c) l (answered (numbered n)) l
   unfolding asks frame_call refusal answered
-  on_refused {n} q is = rw (is.0, is.1, numbered_no n q.some, ← numbers n) (keeps_no (on o c) l n q.number_is q.some)
+  on_refused n q = rw (numbered_no n q.some, ← numbers n) (keeps_no (on o c) l n q.number_is q.some)
 
   module _ (p : Address) (f : Found l o p) (ends : page_answer c (present_page l p) ≡ done) (asked : first_no (asks (on o c) l) ≡ first_no (rest_asks o c l)) where
     ends_done : done_answer (on o c) l ≡ done
@@ -154,39 +154,38 @@ module _ (l : Lent) (o : ℕ) (c : PageCall) (numbers : (n : ℕ) → page_refus
     ends_done = rw f.place_is ends
 
     -- done, and no frame changes
-    on_nothing : call_frames o c l ≡ [] → {n : ℕ} → n ≡ 0 → {d : Done} → (d.answer ≡ n) × (d.store ≡ l.store)
-        → Kept (on o c) l (answered (numbered d.answer)) (lent d.store l.memory l.card)
-    on_nothing none z is = rw (is.0, is.1, z, answered-done, ← ends_done) (looked l o c none f asked)
+    on_nothing : call_frames o c l ≡ [] → (n : ℕ) → n ≡ 0
+        → Kept (on o c) l (answered (numbered n)) l
+    on_nothing none n z = rw (z, answered-done, ← ends_done) (looked l o c none f asked)
 
     -- its frames go to the frame layer, which asks 12 to 14
-    on_changed : (names bytes : List ℕ) → frames_with names bytes ≡ call_frames o c l → {n : ℕ} {t : Store} {after : List ℕ} → ChangeKept l.store l.memory names bytes n t after
-        → {d : Done} → (d.answer ≡ n) × (d.store ≡ t) → Kept (on o c) l (answered (numbered d.answer)) (lent d.store after l.card)
+    on_changed : (names bytes : List ℕ) → frames_with names bytes ≡ call_frames o c l → (n : ℕ) {t : Store} {after : List ℕ} → ChangeKept l.store l.memory names bytes n t after
+        → Kept (on o c) l (answered (numbered n)) (lent t after l.card)
     unfolding frame_call refusal frames.asks frames.done_answer answered
-    on_changed names bytes are {n} {t} {after} k is =
-        rw (is.0, is.1)
+    on_changed names bytes are n {t} {after} k =
         (lifted (on o c) l (lent t after l.card) (numbered n) (rw (← are) (k l.card f.passed))
         (asked ∙ sym (common_passed l.store (length l.memory) (length l.card) (rest_asks o c l) f.passed)) ends_done numbers)
 
 -- ---- rescind
 
 module _ (l : Lent) (o count : ℕ) where
-  pub rescind_refused : {n : ℕ} → Stops l o (λ p. key_asks (present_count l p) count 15 (ltb count 4294967295) ++ rest_asks o (rescind count) l) n
-      → {d : Done} → (d.answer ≡ n) × (d.store ≡ l.store) → Kept (on o (rescind count)) l (answered (numbered d.answer)) (lent d.store l.memory l.card)
+  pub rescind_refused : (n : ℕ) → Stops l o (λ p. key_asks (present_count l p) count 15 (ltb count 4294967295) ++ rest_asks o (rescind count) l) n
+      → Kept (on o (rescind count)) l (answered (numbered n)) l
   unfolding page_asks page_refusal page_of
-  rescind_refused q is = on_refused l o (rescind count) (λ n. refl) q is
+  rescind_refused n q = on_refused l o (rescind count) (λ n. refl) n q
 
   module _ (p : Address) (pot : List ℕ) (k : Keyed l o count p pot (ltb count 4294967295)) where
     -- the count can rise
     pub rescind_few : count_at pot p.entry < 4294967295
     rescind_few = omega (arith, k.count_is, ltb-true count 4294967295 k.own_is)
 
-    pub rescind_done : {f : ℕ} → f ≡ p.pot → (x : List ℕ) → length x ≡ 512 → x ≡ rescind_pot pot p.entry → {n : ℕ} {t : Store} {after : List ℕ}
-        → ChangeKept l.store l.memory (f ∷ []) x n t after → {d : Done} → (d.answer ≡ n) × (d.store ≡ t)
-        → Kept (on o (rescind count)) l (answered (numbered d.answer)) (lent d.store after l.card)
+    pub rescind_done : {f : ℕ} → f ≡ p.pot → (x : List ℕ) → length x ≡ 512 → x ≡ rescind_pot pot p.entry → (n : ℕ) {t : Store} {after : List ℕ}
+        → ChangeKept l.store l.memory (f ∷ []) x n t after
+        → Kept (on o (rescind count)) l (answered (numbered n)) (lent t after l.card)
     unfolding asks page_asks page_answer page_refusal page_of
-    rescind_done {f} name x long x-is c is =
+    rescind_done {f} name x long x-is n c =
         on_changed l o (rescind count) (λ n. refl) p k.found refl (keyed_asks l o count p pot 15 _ (λ q. rest_asks o (rescind count) l) k)
-        (f ∷ []) x (one_frame f x long ∙ pot_named ∙ sym (rescind_frames l o p k.found.place_is count)) c is
+        (f ∷ []) x (one_frame f x long ∙ pot_named ∙ sym (rescind_frames l o p k.found.place_is count)) n c
       where
         pot_named : ◌≡◌ {A = List FrameBytes} (record { frame = f; bytes = x } ∷ []) (record { frame = p.pot; bytes = rescind_pot (present_frames l p.pot) p.entry } ∷ [])
         pot_named = rw (name, x-is, k.pot_is) refl
@@ -194,10 +193,10 @@ module _ (l : Lent) (o count : ℕ) where
 -- ---- write
 
 module _ (l : Lent) (o count at : ℕ) (new : List ℕ) where
-  pub write_refused : {n : ℕ} → Stops l o (λ p. key_asks (present_count l p) count 11 (leb (at + length new) 512) ++ rest_asks o (write count at new) l) n
-      → {d : Done} → (d.answer ≡ n) × (d.store ≡ l.store) → Kept (on o (write count at new)) l (answered (numbered d.answer)) (lent d.store l.memory l.card)
+  pub write_refused : (n : ℕ) → Stops l o (λ p. key_asks (present_count l p) count 11 (leb (at + length new) 512) ++ rest_asks o (write count at new) l) n
+      → Kept (on o (write count at new)) l (answered (numbered n)) l
   unfolding page_asks page_refusal page_of
-  write_refused q is = on_refused l o (write count at new) (λ n. refl) q is
+  write_refused n q = on_refused l o (write count at new) (λ n. refl) n q
 
   module _ (p : Address) (pot : List ℕ) (k : Keyed l o count p pot (leb (at + length new) 512)) where
     write_room : first_no (asks (on o (write count at new)) l) ≡ first_no (rest_asks o (write count at new) l)
@@ -205,29 +204,28 @@ module _ (l : Lent) (o count at : ℕ) (new : List ℕ) where
     write_room = keyed_asks l o count p pot 11 _ (λ q. rest_asks o (write count at new) l) k
 
     -- no bytes: no frame changes
-    pub write_nothing : length new ≡ 0 → {n : ℕ} → n ≡ 0 → {d : Done} → (d.answer ≡ n) × (d.store ≡ l.store)
-        → Kept (on o (write count at new)) l (answered (numbered d.answer)) (lent d.store l.memory l.card)
+    pub write_nothing : length new ≡ 0 → (n : ℕ) → n ≡ 0
+        → Kept (on o (write count at new)) l (answered (numbered n)) l
     unfolding page_answer page_refusal
-    write_nothing e z is = on_nothing l o (write count at new) (λ n. refl) p k.found refl write_room (nothing_frames l o count at new e) z is
+    write_nothing e n z = on_nothing l o (write count at new) (λ n. refl) p k.found refl write_room (nothing_frames l o count at new e) n z
 
-    module _ (some : length new ≢ 0) (x : List ℕ) (x-long : length x ≡ 512) (x-is : x ≡ patch (page_bytes (present_frames l) p) at new) {n : ℕ} {t : Store} {after : List ℕ}
-        {d : Done} (d-is : (d.answer ≡ n) × (d.store ≡ t)) where
+    module _ (some : length new ≢ 0) (x : List ℕ) (x-long : length x ≡ 512) (x-is : x ≡ patch (page_bytes (present_frames l) p) at new) (n : ℕ) {t : Store} {after : List ℕ} where
       write_kept : (names bytes : List ℕ) → frames_with names bytes ≡ write_frames (present_frames l) p at new → ChangeKept l.store l.memory names bytes n t after
-          → Kept (on o (write count at new)) l (answered (numbered d.answer)) (lent d.store after l.card)
+          → Kept (on o (write count at new)) l (answered (numbered n)) (lent t after l.card)
       unfolding page_answer page_refusal
       write_kept names bytes are c =
-          on_changed l o (write count at new) (λ n. refl) p k.found refl write_room names bytes (are ∙ sym (write_frames_lem l o p k.found.place_is count at new some)) c d-is
+          on_changed l o (write count at new) (λ n. refl) p k.found refl write_room names bytes (are ∙ sym (write_frames_lem l o p k.found.place_is count at new some)) n c
 
       -- the flag is clear: the page alone
       pub write_page : is_zero (flags_at pot p.entry) ≡ false → {f : ℕ} → f ≡ p.page → ChangeKept l.store l.memory (f ∷ []) x n t after
-          → Kept (on o (write count at new)) l (answered (numbered d.answer)) (lent d.store after l.card)
+          → Kept (on o (write count at new)) l (answered (numbered n)) (lent t after l.card)
       unfolding write_frames
       write_page flag {f} name c = write_kept (f ∷ []) x (one_frame f x x-long ∙ rw (name, x-is, ← k.pot_is, flag) refl) c
 
       -- it is set: the page, then the pot
       pub write_both : is_zero (flags_at pot p.entry) ≡ true → (y : List ℕ) → length y ≡ 512 → y ≡ put_flags pot p.entry (clear_zero (flags_at pot p.entry))
           → {f g : ℕ} → f ≡ p.page → g ≡ p.pot → {both : List ℕ} → both ≡ x ++ y → ChangeKept l.store l.memory (f ∷ g ∷ []) both n t after
-          → Kept (on o (write count at new)) l (answered (numbered d.answer)) (lent d.store after l.card)
+          → Kept (on o (write count at new)) l (answered (numbered n)) (lent t after l.card)
       unfolding write_frames
       write_both flag y y-long y-is {f} {g} name other {both} both_is c =
           write_kept (f ∷ g ∷ []) both (ap (frames_with (f ∷ g ∷ [])) both_is ∙ two_frames f g x y x-long y-long ∙ rw (name, other, x-is, y-is, ← k.pot_is, flag) refl) c

@@ -11,9 +11,8 @@ use mathlib.Core.Path.{◌≡◌}
 use native.Mathlib.Omega.{arith}
 use Rattle.card.proofs.QuestionLaws.{passed_both}
 use Rattle.card.specs.Question.{first_no}
-use Rattle.card.specs.Range.{Range, all_blocks}
+use Rattle.card.specs.Range.{Range, all_blocks, Located}
 use Rattle.card.specs.declared.range.Address.{Address}
-use Rattle.card.specs.declared.range.Lookup.TheVariants.{Located}
 use Rattle.pages.proofs.EditLaws.{touches_one, place_on, in_p, CanAll}
 use Rattle.pages.specs.Call.{PageCall, key, read, write, rescind, page_asks, edits}
 use Rattle.pages.specs.Change.{Change, put, empty, edit}

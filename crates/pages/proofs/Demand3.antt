@@ -14,10 +14,8 @@ use Rattle.card.proofs.QuestionLaws.{none_asked, asked_yes, group_yes}
 use Rattle.card.specs.Block.{block_at, whole}
 use Rattle.card.specs.Header.{header_on}
 use Rattle.card.specs.Question.{ask, first_no, header_ranges}
-use Rattle.card.specs.Range.{locate}
+use Rattle.card.specs.Range.{locate, Lookup, Located}
 use Rattle.card.specs.declared.range.Address.{Address}
-use Rattle.card.specs.declared.range.Lookup.{Lookup}
-use Rattle.card.specs.declared.range.Lookup.TheVariants.{Located}
 use Rattle.frames.proofs.ReadyLaws.{has_frames}
 use Rattle.frames.proofs.Recovery.{frames_recover}
 use Rattle.frames.proofs.Run.{start_lent, stays, first_world, Serves}

@@ -16,10 +16,8 @@ use Rattle.card.proofs.BytesLaws.{patch-length, zeros-length}
 use Rattle.card.proofs.PotLaws.{put_flags-length, put_count-length}
 use Rattle.card.proofs.Test.{by_test}
 use Rattle.card.specs.Bytes.{patch, zeros, All}
-use Rattle.card.specs.Range.{Range, locate, all_blocks}
+use Rattle.card.specs.Range.{Range, locate, all_blocks, Lookup, Located}
 use Rattle.card.specs.declared.range.Address.{Address}
-use Rattle.card.specs.declared.range.Lookup.{Lookup}
-use Rattle.card.specs.declared.range.Lookup.TheVariants.{Located}
 use Rattle.pages.proofs.BlankLaws.{blank_frames}
 use Rattle.pages.proofs.NeededLaws.{page_at, oid_needed, change_brings}
 use Rattle.pages.proofs.RowLaws.{CanMake, after, own_row, other_rows}

@@ -13,9 +13,8 @@ use Rattle.card.specs.Block.{block_at}
 use Rattle.card.specs.Bytes.{zeros}
 use Rattle.card.specs.Header.{header_on}
 use Rattle.card.specs.Question.{first_no, header_ranges}
-use Rattle.card.specs.Range.{Range, all_blocks, locate}
+use Rattle.card.specs.Range.{Range, all_blocks, locate, Located}
 use Rattle.card.specs.declared.range.Address.{Address}
-use Rattle.card.specs.declared.range.Lookup.TheVariants.{Located}
 use Rattle.pages.proofs.EditLaws.{in_p, page_alike}
 use Rattle.pages.proofs.NeededLaws.{oid_needed}
 use Rattle.pages.proofs.Represents.{accepted_full}

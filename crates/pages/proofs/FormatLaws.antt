@@ -3,7 +3,7 @@
 use Prim.Native.Nat.{ℕ, ◌+◌, ◌*◌, ◌/◌, ◌%◌, ◌≤◌, ◌<◌}
 use borrow.Author.Tests.{eqb-true, eq-eqb, ne_eqb}
 use lib.Dec.{eqb}
-use lib.ListN.{length, get_or}
+use lib.ListN.{length}
 use mathlib.Core.Bool.{Bool, true, false, cond, ◌&&◌, and-false}
 use mathlib.Core.List.{List}
 use mathlib.Core.Logic.{◌≢◌}
@@ -12,9 +12,8 @@ use mathlib.Core.Path.{◌≡◌, refl, ◌∙◌}
 use native.Mathlib.Omega.{arith}
 use Rattle.card.proofs.AddressLaws.{Within, lies, lies_home, pots_among, pot_in}
 use Rattle.card.proofs.BlockLaws.{put_length, put_same, put_other}
-use Rattle.card.proofs.BytesLaws.{tab_same, Filled}
 use Rattle.card.proofs.CheckpointLaws.{whole_tells}
-use Rattle.card.proofs.HeaderLaws.{ranges_length, header_length}
+use Rattle.card.proofs.HeaderLaws.{header_length}
 use Rattle.card.proofs.PotLaws.{fresh_count, fresh_flags}
 use Rattle.card.proofs.QuestionLaws.{none_asked, asked_yes, asked_no, passed_both}
 use Rattle.card.proofs.RangeLaws.{Geometry, geometry_tells}
@@ -24,9 +23,8 @@ use Rattle.card.specs.Bytes.{All}
 use Rattle.card.specs.Header.{header_block, header_on}
 use Rattle.card.specs.Pot.{is_zero, fresh_pot}
 use Rattle.card.specs.Question.{first_no, header_ranges}
-use Rattle.card.specs.Range.{Range, range_in, ranges_of, geometry_fits, locate, all_pots}
+use Rattle.card.specs.Range.{Range, geometry_fits, locate, all_pots, Located}
 use Rattle.card.specs.declared.range.Address.{Address}
-use Rattle.card.specs.declared.range.Lookup.TheVariants.{Located}
 use Rattle.frames.specs.Promise.{numbered}
 use Rattle.pages.proofs.PotsLaws.{put_pots-length, put_pots_other, put_pots-fresh}
 use Rattle.pages.specs.Call.{done}
@@ -151,11 +149,6 @@ format_done area numbers before card k =
 
 -- ---- what code answers
 
--- the numbers of n ranges, copied
-pub ranges_copied : (numbers r : List ℕ) (n m : ℕ) → 2 * n ≤ m → Filled (λ k. get_or numbers k 0) m r → ranges_of r n ≡ ranges_of numbers n
-unfolding ranges_of
-ranges_copied numbers r n m few copied = tab_same (range_in r) (range_in numbers) 0 n (λ i low high. rw (copied (2 * i) (omega arith), copied (2 * i + 1) (omega arith)))
-
 module _ (area : ℕ) (numbers before : List ℕ) where
   answers : (n : ℕ) (card : List ℕ) → first_no (format_asks area numbers before) ≡ n → card ≡ cond (eqb n 0) (format_card area (ranges_in numbers) before) before
       → FormatKept area numbers before (answered (numbered n)) card
@@ -176,20 +169,12 @@ module _ (area : ℕ) (numbers before : List ℕ) where
     pub refuses_unfit : geometry_fits (length before / 512) area (ranges_in numbers) ≡ false → FormatKept area numbers before (answered (numbered 5)) before
     refuses_unfit g = refuses_5 (rw g (and-false (eqb (length numbers % 2) 0)))
 
-    -- above 8 ranges
-    pub refuses_many : 8 < length numbers / 2 → FormatKept area numbers before (answered (numbered 5)) before
-    refuses_many many = go (geometry_fits (length before / 512) area (ranges_in numbers)) refl
-      where
-        go : (t : Bool) → geometry_fits (length before / 512) area (ranges_in numbers) ≡ t → FormatKept area numbers before (answered (numbered 5)) before
-        go true e = absurd (omega (arith, (geometry_tells (length before / 512) area (ranges_in numbers) e).few, ranges_length numbers (length numbers / 2)))
-        go false e = refuses_unfit e
-
-    -- the ranges as code has them: the pots, then the header
-    pub formats : length numbers % 2 ≡ 0 → (rs : List Range) → rs ≡ ranges_in numbers → geometry_fits (length before / 512) area rs ≡ true → (potted head card : List ℕ)
-        → potted ≡ put_pots before (all_pots rs (1 + area)) → head ≡ header_block 0 0 area rs → card ≡ put_block potted 0 head → FormatKept area numbers before (answered (numbered 0)) card
+    -- the pots, then the header
+    pub formats : length numbers % 2 ≡ 0 → geometry_fits (length before / 512) area (ranges_in numbers) ≡ true → (potted head card : List ℕ)
+        → potted ≡ put_pots before (all_pots (ranges_in numbers) (1 + area)) → head ≡ header_block 0 0 area (ranges_in numbers) → card ≡ put_block potted 0 head
+        → FormatKept area numbers before (answered (numbered 0)) card
     unfolding format_asks format_card
-    formats even rs is g potted head card p h e =
-        let fits : geometry_fits (length before / 512) area (ranges_in numbers) ≡ true = rw is at g in
+    formats even fits potted head card p h e =
         answers 0 card
         (asked_yes 3 _ _ w ∙ asked_yes 5 _ _ (joined (eqb (length numbers % 2) 0) _ (eq-eqb (length numbers % 2) 0 even) fits) ∙ none_asked)
-        (rw (e, p, h, is))
+        (rw (e, p, h))

@@ -1,13 +1,16 @@
 -- What the code asks of a committed entry's frame, how many entries are passed over, and how many are to be copied.
 -- Assumes nothing.
-use Prim.Native.Nat.{ℕ, suc, ◌+◌, ◌≤◌, ◌<◌}
-use lib.ListN.{length, get_or, drop, length-drop}
-use lib.Seq.{drop-cons}
+use Prim.Native.Nat.{ℕ, zero, suc, ◌+◌, ◌-◌, ◌≤◌, ◌<◌}
+use lib.ListN.{length, get_or, take, drop, length-drop}
+use lib.Seq.{drop-cons, get_or-take, get_or-drop}
 use mathlib.Core.Bool.{Bool, true, false, cond, not}
 use mathlib.Core.List.{List, [], ◌∷◌}
 use mathlib.Core.Path.{◌≡◌, refl, ap, sym, ◌∙◌, subst}
 use native.Mathlib.Nat.{zero-add, add-zero}
 use native.Mathlib.Omega.{arith}
+use Rattle.std.specs.Prelude.{Some, None, count_by}
+use Rattle.std.proofs.lemmas.List.{length-take, get_or_default}
+use Rattle.std.proofs.lemmas.List.Sums.{sum_by-cons}
 use Rattle.card.proofs.BytesLaws.{tab_length, tab_get_d, none_long}
 use Rattle.card.proofs.DirectoryLaws.{entries_length}
 use Rattle.card.proofs.RangeLaws.{geometry_tells}
@@ -16,18 +19,15 @@ use Rattle.card.specs.Pot.{flags_at, is_zero}
 use Rattle.card.specs.Range.{range_in, ranges_of, all_blocks}
 use Rattle.card.specs.declared.directory.Entry.{Entry}
 use Rattle.card.specs.declared.range.Address.{Address}
-use Rattle.frames.specs.Parts.{Readable, MigratingIs, CommittedParts, PartsLent}
+use Rattle.frames.specs.Parts.{Readable, MigratingIs}
 use Rattle.frames.specs.Promise.{lent, meaning_of, LoadsCommitted}
 use Rattle.pages.proofs.NeededLaws.{At, at_tells, pot_needed, page_needed}
 use Rattle.pages.specs.Needed.{frame_at}
 use Rattle.pages.specs.Page.{flagged}
-use Rattle.pages.specs.Promise.{committed_frames, over, passed_of, OverIs, PassedIs, MovesIs, OverAsked}
-use Rattle.pages.specs.declared.home.Frame.{Frame}
-use Rattle.pages.specs.declared.home.Frame.TheVariants as Frames
+use Rattle.pages.specs.Promise.{committed_frames, over, passed_of, OverIs, PassedIs, MovesIs}
 use Rattle.record.proofs.Held.{held, bounds}
 use Rattle.record.specs.Holds.{holds_together}
 use Rattle.record.specs.Meaning.{committed_of, phase_of}
-use Rattle.record.specs.declared.store.Geometry.{Geometry}
 use Rattle.record.specs.declared.store.Store.{Store}
 use Rattle.recovery.proofs.SumLaws.{passed_within, passed_more, passed_early, passed_owed}
 use Rattle.recovery.specs.Sums.{leading, moves_of, moves_left, passed_to}
@@ -48,12 +48,20 @@ module _ (s : Store) (card : List ℕ) (w : Readable s card) where
       let few = (geometry_tells s.geometry.blocks s.geometry.area (ranges_of s.geometry.ranges s.geometry.count) g.geometry).few in
       ((bounds s g).area_high, rw (tab_length (range_in s.geometry.ranges) 0 s.geometry.count) at few)
 
+  -- its committed entries fit their arrays
+  pub committed_few : s.committed.count ≤ 256
+  committed_few = (bounds s (held s w.together)).committed_small
+
+  -- those that are home are some of them
+  pub migrated_inside : s.migrated ≤ s.committed.count
+  migrated_inside = (held s w.together).migrated_within
+
   module _ (f : ℕ) where
     -- a pot is not passed over
-    pub over_none : frame_at (ranges_of s.geometry.ranges s.geometry.count) (1 + s.geometry.area) f ≡ Frames.Pot → OverIs s card f false
+    pub over_none : frame_at (ranges_of s.geometry.ranges s.geometry.count) (1 + s.geometry.area) f ≡ None → OverIs s card f false
     over_none e = λ memory. sym (ap not (pot_needed (ranges_of s.geometry.ranges s.geometry.count) s.geometry.area s.geometry.blocks home_full (committed_frames (lent s memory card)) f e))
 
-    module _ (p : Address) (e : frame_at (ranges_of s.geometry.ranges s.geometry.count) (1 + s.geometry.area) f ≡ Frames.Page p) where
+    module _ (p : Address) (e : frame_at (ranges_of s.geometry.ranges s.geometry.count) (1 + s.geometry.area) f ≡ Some p) where
       told : At (ranges_of s.geometry.ranges s.geometry.count) (1 + s.geometry.area) (1 + s.geometry.area + all_blocks (ranges_of s.geometry.ranges s.geometry.count)) f p
       told = at_tells (ranges_of s.geometry.ranges s.geometry.count) (1 + s.geometry.area) f p e
 
@@ -67,39 +75,6 @@ module _ (s : Store) (card : List ℕ) (w : Readable s card) where
       pub over_some : (pot : List ℕ) → ((memory : List ℕ) → LoadsCommitted (lent s memory card) p.pot pot) → (r : Bool) → r ≡ is_zero (flags_at pot p.entry) → OverIs s card f r
       over_some pot is r q = λ memory. q ∙ ap (λ (x : List ℕ). is_zero (flags_at x p.entry)) (is memory) ∙ not_not (flagged (committed_frames (lent s memory card)) p)
           ∙ sym (ap not (page_needed (ranges_of s.geometry.ranges s.geometry.count) s.geometry.area s.geometry.blocks home_full (committed_frames (lent s memory card)) f p e))
-
--- ---- by the parts of a record
-
--- the frame at a home block
-abbrev pub frame_by : Geometry → ℕ → Frame
-frame_by g f = frame_at (ranges_of g.ranges g.count) (1 + g.area) f
-
-module _ {g : Geometry} {first : ℕ} {frames places : List ℕ} {count : ℕ} {card : List ℕ} {f : ℕ} (k : OverAsked g first frames places count card f) where
-  pub asked_searchable : (g.area ≤ 512) × ((g.count ≤ 8) × ((g.area < f) × (f ≤ 65536)))
-  asked_searchable =
-      let low = home_searchable k.store card k.readable in
-      let same : g.blocks ≡ k.store.geometry.blocks = ap (λ (x : Geometry). x.blocks) k.geometry_is in (
-        subst (λ (x : Geometry). x.area ≤ 512) (sym k.geometry_is) low.0,
-        (subst (λ (x : Geometry). x.count ≤ 8) (sym k.geometry_is) low.1, (k.home.0, omega (arith, k.home.1, same, k.readable.card_few))),
-      )
-
-  module _ (p : Address) (e : frame_by g f ≡ Frames.Page p) where
-    there : frame_by k.store.geometry f ≡ Frames.Page p
-    there = sym (ap (λ (x : Geometry). frame_by x f) k.geometry_is) ∙ e
-
-    pub asked_lent : PartsLent g.area first frames places count card p.pot
-    asked_lent = record { store = k.store; parts = k.parts; readable = k.readable; inside = pot_inside k.store card k.readable f p there }
-
-    pub asked_entry : p.entry < 102
-    asked_entry = entry_inside k.store card k.readable f p there
-
--- a record has its own parts
-pub own_parts : (s : Store) → CommittedParts s s.geometry.area s.first s.committed.frames s.committed.places s.committed.count
-own_parts s = record { area_is = refl; first_is = refl; frames_are = refl; places_are = refl; count_is = refl }
-
-pub own_asked : (s : Store) (card : List ℕ) (f : ℕ) → Readable s card → (s.geometry.area < f) × (f < s.geometry.blocks)
-    → OverAsked s.geometry s.first s.committed.frames s.committed.places s.committed.count card f
-own_asked s card f w h = record { store = s; geometry_is = refl; parts = own_parts s; readable = w; home = h }
 
 -- ---- how many are passed over
 
@@ -178,6 +153,51 @@ module _ (s : Store) (card : List ℕ) where
 
 -- ---- how many are to be copied
 
+-- the frames of the entries that are not home
+abbrev pub rest_frames : Store → List ℕ
+rest_frames s = take (s.committed.count - s.migrated) (drop s.migrated s.committed.frames)
+
+module _ (s : Store) (card : List ℕ) (w : Readable s card) (long : length s.committed.frames ≡ 256) where
+  -- each is a home frame
+  module _ (x k : ℕ) (more : k < length (rest_frames s)) (is : x ≡ get_or (rest_frames s) k x) where
+    low : k < s.committed.count - s.migrated
+    low = omega (arith, more, length-take (s.committed.count - s.migrated) (drop s.migrated s.committed.frames))
+
+    rest_is : x ≡ get_or s.committed.frames (s.migrated + k) 0
+    rest_is =
+        is ∙ get_or-take _ (drop s.migrated s.committed.frames) k x low ∙ get_or-drop s.migrated s.committed.frames k x
+        ∙ get_or_default s.committed.frames (s.migrated + k) x 0 (omega (arith, low, long, committed_few s card w))
+
+    rest_home : (s.geometry.area < get_or s.committed.frames (s.migrated + k) 0) × (get_or s.committed.frames (s.migrated + k) 0 < s.geometry.blocks)
+    rest_home = frame_home s card (s.migrated + k) (omega (arith, low)) w.together
+
+    pub rest_low : s.geometry.area < x
+    rest_low = rw rest_is rest_home.0
+
+    pub rest_high : x < s.geometry.blocks
+    rest_high = rw rest_is rest_home.1
+
+  -- of the entries from the i-th on those that are not passed over are to be copied
+  counts : (o : ℕ → Bool) (n i : ℕ) → i + n ≡ s.committed.count → moves_of o (drop i (committed_of s).entries) ≡ count_by (λ (f : ℕ). not (o f)) (take n (drop i s.committed.frames))
+  unfolding moves_of
+  counts o zero i e = rw (none_long (drop i (committed_of s).entries) (omega (arith, length-drop i (committed_of s).entries, entries_long s card, e)))
+  counts o (suc n) i e =
+      let more : i < s.committed.count = omega (arith, e) in
+      let x = get_or s.committed.frames i 0 in
+      let one = sum_by-cons (λ (f : ℕ). cond (not (o f)) 1 0) x (take n (drop (suc i) s.committed.frames)) in
+      rw (next_is s card i more, frame_is s card i more, drop-cons s.committed.frames i 0 (omega (arith, more, long, committed_few s card w)))
+      (go (o x) (counts o n (suc i) (omega (arith, e))) ∙ sym one)
+    where
+      go : (t : Bool) → {a b : ℕ} → a ≡ b → cond t a (suc a) ≡ cond (not t) 1 0 + b
+      go true e = omega (arith, e)
+      go false e = omega (arith, e)
+
+  pub moves_counted : (n : ℕ) → ((memory : List ℕ) → n ≡ count_by (λ (f : ℕ). not (over (lent s memory card) f)) (rest_frames s)) → MovesIs s card n
+  unfolding moves_left
+  moves_counted n e = λ memory any. e memory ∙ sym (counts (over (lent s memory card)) (s.committed.count - s.migrated) s.migrated (omega (arith, migrated_inside s card w)))
+
+-- ---- the same, entry by entry
+
 -- n are counted, and the i-th entry on are still to be looked at
 abbrev pub MovesFrom : Store → List ℕ → ℕ → ℕ → Type 0
 MovesFrom s card n i = (memory : List ℕ) → moves_left (over (lent s memory card)) (meaning_of (lent s memory card)) ≡ n + moves_of (over (lent s memory card)) (drop i (committed_of s).entries)
@@ -188,9 +208,9 @@ moves_start s card = λ memory. sym (zero-add (moves_of (over (lent s memory car
 
 module _ (s : Store) (card : List ℕ) where
   module _ (i : ℕ) (more : i < s.committed.count) where
-    counts : (o : ℕ → Bool) → moves_of o (drop i (committed_of s).entries) ≡ cond (o (get_or s.committed.frames i 0)) 0 1 + moves_of o (drop (i + 1) (committed_of s).entries)
+    this_counts : (o : ℕ → Bool) → moves_of o (drop i (committed_of s).entries) ≡ cond (o (get_or s.committed.frames i 0)) 0 1 + moves_of o (drop (i + 1) (committed_of s).entries)
     unfolding moves_of
-    counts o = rw (next_is s card i more, frame_is s card i more) (go (o (get_or s.committed.frames i 0)) (let one : suc i ≡ i + 1 = omega arith in ap (λ (k : ℕ). moves_of o (drop k (committed_of s).entries)) one))
+    this_counts o = rw (next_is s card i more, frame_is s card i more) (go (o (get_or s.committed.frames i 0)) (let one : suc i ≡ i + 1 = omega arith in ap (λ (k : ℕ). moves_of o (drop k (committed_of s).entries)) one))
       where
         go : (t : Bool) → {x y : ℕ} → x ≡ y → cond t x (suc x) ≡ cond t 0 1 + y
         go true e = e ∙ omega arith
@@ -201,7 +221,7 @@ module _ (s : Store) (card : List ℕ) where
     moves_by n f e r q k is p = λ memory.
         let o = over (lent s memory card) in
         let k-is : k ≡ cond (o (get_or s.committed.frames i 0)) 0 1 = is ∙ ap (λ (t : Bool). cond t 0 1) (q memory ∙ ap o e) in
-        omega (arith, p memory, counts o, k-is)
+        omega (arith, p memory, this_counts o, k-is)
 
     pub moves_over : (n f : ℕ) → f ≡ get_or s.committed.frames i 0 → (r : Bool) → OverIs s card f r → r ≡ true → MovesFrom s card n i → MovesFrom s card n (i + 1)
     moves_over n f e r q t p = subst (λ (m : ℕ). MovesFrom s card m (i + 1)) (add-zero n) (moves_by n f e r q 0 (sym (ap (λ (x : Bool). cond x 0 1) t)) p)

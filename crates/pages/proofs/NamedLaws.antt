@@ -8,29 +8,30 @@ use mathlib.Core.Bool.{Bool, true, false}
 use mathlib.Core.List.{List, [], ◌∷◌, ◌++◌, append-nil}
 use mathlib.Core.Logic.{◌≢◌}
 use mathlib.Core.Path.{◌≡◌, refl, ap, sym, ◌∙◌}
+use native.Mathlib.Decide.{ℕ_discrete}
 use native.Mathlib.Omega.{arith}
 use Rattle.card.proofs.AddressLaws.{Within, lies_home}
 use Rattle.card.proofs.BlockLaws.{block_first, block_second}
 use Rattle.card.proofs.BytesLaws.{tab_length}
 use Rattle.card.proofs.QuestionLaws.{none_asked, asked_yes, passed_both, group_no}
 use Rattle.card.proofs.RangeLaws.{geometry_tells}
+use Rattle.card.proofs.RefusalLaws.{number_some}
 use Rattle.card.proofs.Test.{joined}
 use Rattle.card.specs.Block.{block_at}
 use Rattle.card.specs.Bytes.{tabulate, zeros}
 use Rattle.card.specs.Pot.{count_at, flags_at, is_zero}
 use Rattle.card.specs.Question.{Question, ask, first_no}
-use Rattle.card.specs.Range.{range_in, ranges_of}
+use Rattle.card.specs.Range.{range_in, ranges_of, Lookup, Located, Gap, Outside}
+use Rattle.card.specs.Refusal.{number}
 use Rattle.card.specs.declared.range.Address.{Address}
-use Rattle.card.specs.declared.range.Lookup.{Lookup}
-use Rattle.card.specs.declared.range.Lookup.TheVariants.{Located, Gap, Outside}
+use Rattle.card.specs.declared.refusal.Refusal.{Refusal}
 use Rattle.frames.proofs.LoadLaws.{newest_whole}
 use Rattle.frames.proofs.ReadyLaws.{Ready, ready, common_passed, common_refused}
 use Rattle.frames.specs.Parts.{frames_with, Changing}
 use Rattle.frames.specs.Promise.{Lent, meaning_of, common_asks, common}
 use Rattle.pages.proofs.AnswerLaws.{placed_located, placed_gap, placed_outside}
 use Rattle.pages.specs.Page.{page_bytes}
-use Rattle.pages.specs.Promise.{address_of, present_frames, placed, NamedIs}
-use Rattle.pages.specs.declared.named.Named.{Named}
+use Rattle.pages.specs.Promise.{address_of, present_frames, placed, PotFound}
 use Rattle.record.proofs.Held.{held, bounds}
 use Rattle.record.proofs.ListLaws.{elem_miss, elem_end, once-first, once_end, within_yes, within_end}
 use Rattle.record.specs.Holds.{holds_together}
@@ -53,6 +54,10 @@ searchable l h =
 pub record Found (l : Lent) (oid : ℕ) (p : Address) : Type 0 where
   pub passed : first_no (common l) ≡ 0
   pub place_is : address_of l oid ≡ Located p
+
+-- as the code finds it
+pub found_by : {l : Lent} {oid : ℕ} {p : Address} {pot : List ℕ} → PotFound l oid p pot → Found l oid p
+found_by f = record { passed = f.passed; place_is = f.place_is }
 
 -- ---- its frames changed
 
@@ -176,15 +181,22 @@ placed_stop (Located p) rest z = absurd (z (placed_located p (λ q. []) ∙ none
 placed_stop Gap rest z = placed_gap rest ∙ sym (placed_gap (λ q. []))
 placed_stop Outside rest z = placed_outside rest ∙ sym (placed_outside (λ q. []))
 
-module _ (l : Lent) (oid : ℕ) (rest : Address → List Question) where
-  pub common_stops : {n : ℕ} → n ≡ first_no (common l) → n ≢ 0 → Stops l oid rest n
-  common_stops e z = record { number_is = common_refused l.store _ _ _ (λ k. z (e ∙ k)) ∙ sym e; some = z }
+-- no refusal has number 0
+pub positive : (r : Refusal) → number r ≢ 0
+positive r e = omega (arith, number_some r, e)
 
-  pub place_stops : first_no (common l) ≡ 0 → {r : Named} → NamedIs l.store.geometry oid r → r.refusal ≢ 0 → Stops l oid rest r.refusal
-  place_stops h n z = record {
-    number_is = common_passed l.store (length l.memory) (length l.card) _ h ∙ placed_stop (address_of l oid) rest (λ k. z (n.refusal_is ∙ k)) ∙ sym n.refusal_is;
-    some = z;
-  }
+module _ (l : Lent) (oid : ℕ) (rest : Address → List Question) where
+  -- by any of 1 to 3, 21 and 9
+  pub named_stops : (r : Refusal) → number r ≡ first_no (named_asks l oid (λ p. [])) → Stops l oid rest (number r)
+  named_stops r e = go (ℕ_discrete (first_no (common l)) 0)
+    where
+      go : Dec (first_no (common l) ≡ 0) → Stops l oid rest (number r)
+      go (yes h) =
+          let passed : (x : List Question) → first_no (common l ++ x) ≡ first_no x = λ x. common_passed l.store (length l.memory) (length l.card) x h in
+          record { number_is = passed _ ∙ placed_stop (address_of l oid) rest (λ k. positive r (e ∙ passed _ ∙ k)) ∙ sym (passed _) ∙ sym e; some = positive r }
+      go (no h) =
+          let stops : (x : List Question) → first_no (common l ++ x) ≡ first_no (common l) = λ x. common_refused l.store (length l.memory) (length l.card) x h in
+          record { number_is = stops _ ∙ sym (stops _) ∙ sym e; some = positive r }
 
   pub rest_asked : (p : Address) → Found l oid p → first_no (named_asks l oid rest) ≡ first_no (rest p)
   rest_asked p f = common_passed l.store (length l.memory) (length l.card) _ f.passed ∙ ap (λ (a : Lookup). first_no (placed a rest)) f.place_is ∙ placed_located p rest

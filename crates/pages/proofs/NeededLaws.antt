@@ -11,17 +11,15 @@ use mathlib.Core.Logic.{◌≢◌}
 use mathlib.Core.Path.{◌≡◌, refl, ap, sym, ◌∙◌}
 use native.Mathlib.Decide.{ℕ_discrete}
 use native.Mathlib.Omega.{arith}
+use Rattle.std.specs.Prelude.{Option, Some, None}
 use Rattle.card.proofs.AddressLaws.{lies, PlacesApart, Found, here, later, found}
-use Rattle.card.specs.Range.{Range, range_blocks, address_in, locate, all_blocks}
+use Rattle.card.specs.Range.{Range, range_blocks, address_in, locate, all_blocks, Located}
 use Rattle.card.specs.declared.range.Address.{Address}
-use Rattle.card.specs.declared.range.Lookup.TheVariants.{Located}
 use Rattle.pages.proofs.RowLaws.{flag_after, other_rows}
 use Rattle.pages.specs.Change.{Change, put, empty, write_frames, changed_frames}
 use Rattle.pages.specs.Needed.{frame_in, frame_at, needed}
 use Rattle.pages.specs.Page.{flagged}
 use Rattle.pages.specs.Plain.{Row, row_of, zero_after}
-use Rattle.pages.specs.declared.home.Frame.{Frame}
-use Rattle.pages.specs.declared.home.Frame.TheVariants as Frames
 use Rattle.recovery.specs.Book.{apply_changes, Brings}
 use Rattle.recovery.specs.Contents.{Contents}
 
@@ -42,13 +40,13 @@ pub record At (rs : List Range) (start hi f : ℕ) (p : Address) : Type 0 where
   pub entry_high : p.entry < 102
   pub pot_low : start ≤ p.pot
   pub pot_high : p.pot < hi
-  pub pot_is : frame_at rs start p.pot ≡ Frames.Pot
+  pub pot_is : frame_at rs start p.pot ≡ None
 
-pub in_pot : (start o : ℕ) → o % 103 ≡ 0 → frame_in start o ≡ Frames.Pot
+pub in_pot : (start o : ℕ) → o % 103 ≡ 0 → frame_in start o ≡ None
 unfolding frame_in
 in_pot start o h = rw (eq-eqb (o % 103) 0 h)
 
-pub in_page : (start o : ℕ) → o % 103 ≢ 0 → frame_in start o ≡ Frames.Page (record { page = start + o; pot = start + 103 * (o / 103); entry = o % 103 - 1 })
+pub in_page : (start o : ℕ) → o % 103 ≢ 0 → frame_in start o ≡ Some (record { page = start + o; pot = start + 103 * (o / 103); entry = o % 103 - 1 })
 unfolding frame_in
 in_page start o h = rw (ne_eqb (o % 103) 0 h)
 
@@ -67,12 +65,12 @@ list_here start f l r rs e h = rw e (at_here r rs start f h)
 pub list_later : (start f : ℕ) (l : List Range) (r : Range) (rs : List Range) → l ≡ r ∷ rs → start + range_blocks r.pages ≤ f → frame_at l start f ≡ frame_at rs (start + range_blocks r.pages) f
 list_later start f l r rs e h = rw e (at_later r rs start f h)
 
-pub list_none : (start f : ℕ) (l : List Range) → l ≡ [] → frame_at l start f ≡ Frames.Pot
+pub list_none : (start f : ℕ) (l : List Range) → l ≡ [] → frame_at l start f ≡ None
 unfolding frame_at
 list_none start f l e = rw e
 
 -- the page of number k of a range
-page_of : (start k : ℕ) → frame_in start (start + k + k / 102 + 1 - start) ≡ Frames.Page (address_in start k)
+page_of : (start k : ℕ) → frame_in start (start + k + k / 102 + 1 - start) ≡ Some (address_in start k)
 page_of start k =
     let e : start + k + k / 102 + 1 - start ≡ k + k / 102 + 1 = omega arith in
     let run : (k + k / 102 + 1) / 103 ≡ k / 102 = omega arith in
@@ -82,22 +80,22 @@ page_of start k =
     let entry-is : (k + k / 102 + 1) % 103 - 1 ≡ k % 102 = omega (arith, place) in
     let same : ◌≡◌ {A = Address} (record { page = start + (k + k / 102 + 1); pot = start + 103 * ((k + k / 102 + 1) / 103); entry = (k + k / 102 + 1) % 103 - 1 }) (address_in start k) =
     λ i. record { page = page_is i; pot = pot_is i; entry = entry-is i } in
-    ap (frame_in start) e ∙ in_page start (k + k / 102 + 1) (omega (arith, place)) ∙ ap (λ (p : Address). Frames.Page p) same
+    ap (frame_in start) e ∙ in_page start (k + k / 102 + 1) (omega (arith, place)) ∙ ap (λ (p : Address). Some p) same
 
 -- every page that an OID has is found at its block
-pub page_at : (rs : List Range) (start oid : ℕ) (p : Address) → locate rs start oid ≡ Located p → frame_at rs start p.page ≡ Frames.Page p
+pub page_at : (rs : List Range) (start oid : ℕ) (p : Address) → locate rs start oid ≡ Located p → frame_at rs start p.page ≡ Some p
 page_at [] start oid p e = let w = lies [] start oid p e in absurd (omega (arith, w.pot_low, w.pot_high))
 page_at (r ∷ rs) start oid p e = go (found r rs start oid p e) (λ q. page_at rs (start + range_blocks r.pages) oid p q)
   where
-    go : Found r rs start oid p → (locate rs (start + range_blocks r.pages) oid ≡ Located p → frame_at rs (start + range_blocks r.pages) p.page ≡ Frames.Page p) → frame_at (r ∷ rs) start p.page ≡ Frames.Page p
+    go : Found r rs start oid p → (locate rs (start + range_blocks r.pages) oid ≡ Located p → frame_at rs (start + range_blocks r.pages) p.page ≡ Some p) → frame_at (r ∷ rs) start p.page ≡ Some p
     go (here l h q) rec = rw (← q) (at_here r rs start _ (omega arith) ∙ page_of start (oid - r.oid))
     go (later q) rec = at_later r rs start p.page (lies rs (start + range_blocks r.pages) oid p q).page_low ∙ rec q
 
-no_page : {A : Type 0} {p : Address} → Frames.Pot ≡ Frames.Page p → A
+no_page : {A : Type 0} {p : Address} → None ≡ Some p → A
 no_page e = let z : ◌≡◌ {A = ℕ} 0 1 = cc in absurd (omega arith)
 
 -- in the first range
-first_tells : (r : Range) (rs : List Range) (start f : ℕ) (p : Address) → f < start + range_blocks r.pages → frame_in start (f - start) ≡ Frames.Page p → At (r ∷ rs) start (start + range_blocks r.pages) f p
+first_tells : (r : Range) (rs : List Range) (start f : ℕ) (p : Address) → f < start + range_blocks r.pages → frame_in start (f - start) ≡ Some p → At (r ∷ rs) start (start + range_blocks r.pages) f p
 first_tells r rs start f p h e = go (ℕ_discrete ((f - start) % 103) 0)
   where
     go : Dec ((f - start) % 103 ≡ 0) → At (r ∷ rs) start (start + range_blocks r.pages) f p
@@ -115,7 +113,7 @@ first_tells r rs start f p h e = go (ℕ_discrete ((f - start) % 103) 0)
           pot_is = at_here r rs start (start + 103 * ((f - start) / 103)) (omega arith) ∙ in_pot start _ (omega arith);
         })
 
-pub at_tells : (rs : List Range) (start f : ℕ) (p : Address) → frame_at rs start f ≡ Frames.Page p → At rs start (start + all_blocks rs) f p
+pub at_tells : (rs : List Range) (start f : ℕ) (p : Address) → frame_at rs start f ≡ Some p → At rs start (start + all_blocks rs) f p
 unfolding frame_at
 at_tells [] start f p = λ e. no_page e
 at_tells (r ∷ rs) start f p = go (ltb f (start + range_blocks r.pages)) refl (at_tells rs (start + range_blocks r.pages) f p)
@@ -127,8 +125,8 @@ at_tells (r ∷ rs) start f p = go (ltb f (start + range_blocks r.pages)) refl (
     wider t = record { page_is = t.page_is; behind = t.behind; entry_high = t.entry_high; pot_low = t.pot_low; pot_high = omega (arith, t.pot_high); pot_is = t.pot_is }
 
     go : (t : Bool) → ltb f (start + range_blocks r.pages) ≡ t
-        → (frame_at rs (start + range_blocks r.pages) f ≡ Frames.Page p → At rs (start + range_blocks r.pages) (start + range_blocks r.pages + all_blocks rs) f p)
-        → cond t (frame_in start (f - start)) (frame_at rs (start + range_blocks r.pages) f) ≡ Frames.Page p → At (r ∷ rs) start (start + (range_blocks r.pages + all_blocks rs)) f p
+        → (frame_at rs (start + range_blocks r.pages) f ≡ Some p → At rs (start + range_blocks r.pages) (start + range_blocks r.pages + all_blocks rs) f p)
+        → cond t (frame_in start (f - start)) (frame_at rs (start + range_blocks r.pages) f) ≡ Some p → At (r ∷ rs) start (start + (range_blocks r.pages + all_blocks rs)) f p
     go true h rec e = wider (first_tells r rs start f p (ltb-true _ _ h) e)
     go false h rec e =
         let t = rec e in
@@ -138,12 +136,12 @@ at_tells (r ∷ rs) start f p = go (ltb f (start + range_blocks r.pages)) refl (
 
 module _ (rs : List Range) (area blocks : ℕ) (full : blocks ≡ 1 + area + all_blocks rs) where
   -- a pot is
-  pub pot_needed : (v : Contents) (f : ℕ) → frame_at rs (1 + area) f ≡ Frames.Pot → needed rs area v f ≡ true
+  pub pot_needed : (v : Contents) (f : ℕ) → frame_at rs (1 + area) f ≡ None → needed rs area v f ≡ true
   unfolding needed
   pot_needed v f e = rw e
 
   -- a page is unless its flag is set
-  pub page_needed : (v : Contents) (f : ℕ) (p : Address) → frame_at rs (1 + area) f ≡ Frames.Page p → needed rs area v f ≡ not (flagged v p)
+  pub page_needed : (v : Contents) (f : ℕ) (p : Address) → frame_at rs (1 + area) f ≡ Some p → needed rs area v f ≡ not (flagged v p)
   unfolding needed
   page_needed v f p e = rw e
 
@@ -157,15 +155,15 @@ module _ (rs : List Range) (area blocks : ℕ) (full : blocks ≡ 1 + area + all
   pub needed_same : (u v : Contents) → ((f : ℕ) → area < f → f < blocks → needed rs area v f ≡ true → u f ≡ v f) → (f : ℕ) → needed rs area u f ≡ needed rs area v f
   needed_same u v h f = go (frame_at rs (1 + area) f) refl
     where
-      go : (x : Frame) → frame_at rs (1 + area) f ≡ x → needed rs area u f ≡ needed rs area v f
-      go Frames.Pot e = pot_needed u f e ∙ sym (pot_needed v f e)
-      go (Frames.Page p) e =
+      go : (x : Option Address) → frame_at rs (1 + area) f ≡ x → needed rs area u f ≡ needed rs area v f
+      go None e = pot_needed u f e ∙ sym (pot_needed v f e)
+      go (Some p) e =
           let t = at_tells rs (1 + area) f p e in
           let pot-same : u p.pot ≡ v p.pot = h p.pot (omega (arith, t.pot_low)) (omega (arith, t.pot_high, full)) (pot_needed v p.pot t.pot_is) in
           page_needed u f p e ∙ (rw pot-same refl) ∙ sym (page_needed v f p e)
 
   -- two pages
-  pub apart : (p q : Address) → frame_at rs (1 + area) p.page ≡ Frames.Page p → frame_at rs (1 + area) q.page ≡ Frames.Page q → p.page ≢ q.page → PlacesApart p q
+  pub apart : (p q : Address) → frame_at rs (1 + area) p.page ≡ Some p → frame_at rs (1 + area) q.page ≡ Some q → p.page ≢ q.page → PlacesApart p q
   apart p q e f d =
       let s = at_tells rs (1 + area) p.page p e in
       let t = at_tells rs (1 + area) q.page q f in
@@ -176,7 +174,7 @@ module _ (rs : List Range) (area blocks : ℕ) (full : blocks ≡ 1 + area + all
         entries = λ k m. d (omega (arith, s.behind, t.behind));
       }
 
-  module _ (v : Contents) (p : Address) (at_p : frame_at rs (1 + area) p.page ≡ Frames.Page p) (two : p.page ≢ p.pot) (long : length (v p.pot) ≡ 512) (high : p.entry < 102) where
+  module _ (v : Contents) (p : Address) (at_p : frame_at rs (1 + area) p.page ≡ Some p) (two : p.page ≢ p.pot) (long : length (v p.pot) ≡ 512) (high : p.entry < 102) where
     flag_of : (u : Contents) (q : Address) → row_of u q ≡ row_of v q → flagged u q ≡ flagged v q
     unfolding row_of
     flag_of u q e = ap (λ (r : Row). r.zero) e
@@ -185,11 +183,11 @@ module _ (rs : List Range) (area blocks : ℕ) (full : blocks ≡ 1 + area + all
     others : (u : Contents) → ((q : Address) → PlacesApart p q → row_of u q ≡ row_of v q) → (f : ℕ) → f ≢ p.page → needed rs area u f ≡ true → needed rs area v f ≡ true
     others u same f d t = go (frame_at rs (1 + area) f) refl
       where
-        go : (x : Frame) → frame_at rs (1 + area) f ≡ x → needed rs area v f ≡ true
-        go Frames.Pot e = pot_needed v f e
-        go (Frames.Page q) e =
+        go : (x : Option Address) → frame_at rs (1 + area) f ≡ x → needed rs area v f ≡ true
+        go None e = pot_needed v f e
+        go (Some q) e =
             let page_is : q.page ≡ f = (at_tells rs (1 + area) f q e).page_is in
-            let at-q : frame_at rs (1 + area) q.page ≡ Frames.Page q = ap (frame_at rs (1 + area)) page_is ∙ e in
+            let at-q : frame_at rs (1 + area) q.page ≡ Some q = ap (frame_at rs (1 + area)) page_is ∙ e in
             let away : PlacesApart p q = apart p q at_p at-q (λ k. d (sym (k ∙ page_is))) in
             page_needed v f q e ∙ ap not (sym (flag_of u q (same q away))) ∙ sym (page_needed u f q e) ∙ t
 

@@ -16,10 +16,8 @@ use Rattle.card.proofs.LookupLaws.{Between, Beyond, Claim, lookup_tells, lookup_
 use Rattle.card.proofs.QuestionLaws.{asked_yes, asked_no, first_among}
 use Rattle.card.proofs.Test.{both, either}
 use Rattle.card.specs.Question.{Question, ask, first_no}
-use Rattle.card.specs.Range.{Range, geometry_fits, locate, last_end}
+use Rattle.card.specs.Range.{Range, geometry_fits, locate, last_end, Lookup, Located, Gap, Outside}
 use Rattle.card.specs.declared.range.Address.{Address}
-use Rattle.card.specs.declared.range.Lookup.{Lookup}
-use Rattle.card.specs.declared.range.Lookup.TheVariants.{Located, Gap, Outside}
 use Rattle.frames.proofs.ReadyLaws.{ready}
 use Rattle.frames.specs.Promise.{Lent, meaning_of, common}
 use Rattle.pages.proofs.AnswerLaws.{asked_own, placed_located, placed_gap, placed_outside, on_located, on_gap, on_outside, Behind9, asks_behind, room_behind}

@@ -12,9 +12,8 @@ use native.Mathlib.Omega.{arith}
 use Rattle.card.proofs.QuestionLaws.{passed_both, group_yes, group_no}
 use Rattle.card.specs.Bytes.{All}
 use Rattle.card.specs.Question.{Question, first_no}
-use Rattle.card.specs.Range.{Range, geometry_fits, all_blocks}
+use Rattle.card.specs.Range.{Range, geometry_fits, all_blocks, Located}
 use Rattle.card.specs.declared.range.Address.{Address}
-use Rattle.card.specs.declared.range.Lookup.TheVariants.{Located}
 use Rattle.frames.proofs.Run.{told, Asked}
 use Rattle.frames.specs.Promise.{Lent, meaning_of, common, FrameCall, past}
 use Rattle.pages.proofs.AnswerLaws.{Later, own_asks, asks-numbered, on_passed}

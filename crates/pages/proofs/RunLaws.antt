@@ -13,10 +13,8 @@ use Rattle.card.specs.Block.{block_at, put_block}
 use Rattle.card.specs.Bytes.{All}
 use Rattle.card.specs.Header.{header_on}
 use Rattle.card.specs.Question.{first_no, header_ranges}
-use Rattle.card.specs.Range.{Range, all_blocks}
+use Rattle.card.specs.Range.{Range, all_blocks, Lookup, Located, Gap, Outside}
 use Rattle.card.specs.declared.range.Address.{Address}
-use Rattle.card.specs.declared.range.Lookup.{Lookup}
-use Rattle.card.specs.declared.range.Lookup.TheVariants.{Located, Gap, Outside}
 use Rattle.frames.proofs.KeepLaws as keep
 use Rattle.frames.proofs.ReadyLaws.{has_frames, no_zeros}
 use Rattle.frames.proofs.Recovery.{frames_present, frames_hold, frames_committed}

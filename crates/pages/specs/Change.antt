@@ -1,12 +1,11 @@
 -- A change of a page: what it makes of the page, of a table of pages, and of the page's two frames (document 01, 'The
 -- calls' and 'The book'). A call's effect is a list of them, for the promise, the book and the plain machine alike.
 -- Assumes nothing.
+use Rattle.card.specs.Range.{Lookup, Located, Gap, Outside}
 use Rattle.std.specs.Prelude.{ℕ, suc, eqb, cond, List, [], ◌∷◌, ◌++◌}
 use Rattle.card.specs.Bytes.{patch, zeros}
 use Rattle.card.specs.Pot.{count_at, flags_at, put_count, put_flags, set_zero, clear_zero}
 use Rattle.card.specs.declared.range.Address.{Address}
-use Rattle.card.specs.declared.range.Lookup.{Lookup}
-use Rattle.card.specs.declared.range.Lookup.TheVariants.{Located, Gap, Outside}
 use Rattle.pages.specs.Page.{Page, flagged, page_bytes}
 use Rattle.recovery.specs.Book.{apply_changes}
 use Rattle.recovery.specs.Contents.{Contents, FrameBytes}

@@ -16,10 +16,9 @@ use Rattle.std.specs.Prelude.{ℕ, ◌+◌, leb, ltb, eqb, length, replicate, Bo
 use Rattle.std.proofs.Math.Option.{Option, none, some}
 use Rattle.card.specs.Header.{header_block}
 use Rattle.card.specs.Question.{Question, ask, first_no}
-use Rattle.card.specs.Range.{Range, locate, last_end}
+use Rattle.card.specs.Range.{Range, locate, last_end, Lookup}
 use Rattle.card.specs.Ring.{ring_at}
 use Rattle.card.specs.declared.range.Address.{Address}
-use Rattle.card.specs.declared.range.Lookup.{Lookup}
 use Rattle.frames.specs.Promise.{advanced}
 use Rattle.pages.specs.Call.{PageCall, key, read, write, rescind, Call, start, on, snapshot, page_out, advance, forecast, Answer, refused, done, counted, filled, wrote, foretold, edits}
 use Rattle.pages.specs.Change.{Change, put, empty, Edit, update, changed, at_place, edit_frames}

@@ -1,24 +1,18 @@
 -- The promise of the ten calls: what each is to do with what it is lent, refusals included (document 01, 'The calls' and 'Questions asked').
 -- Assumes nothing.
-use Rattle.std.specs.Prelude.{ℕ, ◌+◌, ◌/◌, ◌%◌, ◌<◌, eqb, length, Bool, true, false, cond, not, ◌&&◌, List, [], ◌∷◌, ◌++◌, ◌≡◌}
+use Rattle.std.specs.Prelude.{ℕ, ◌+◌, ◌/◌, ◌%◌, ◌<◌, eqb, length, Bool, true, false, cond, not, ◌&&◌, List, [], ◌∷◌, ◌++◌, ◌≡◌, Result, Ok, Err, IfOk}
 use Rattle.card.specs.Block.{whole}
 use Rattle.card.specs.Question.{Question, ask, first_no}
-use Rattle.card.specs.Range.{Range, ranges_of, geometry_fits, locate}
+use Rattle.card.specs.Range.{Range, ranges_of, geometry_fits, Lookup, Located, Gap, Outside, locate}
+use Rattle.card.specs.Refusal.{number, told}
 use Rattle.card.specs.declared.range.Address.{Address}
-use Rattle.card.specs.declared.range.Lookup.{Lookup}
-use Rattle.card.specs.declared.range.Lookup.TheVariants.{Located, Gap, Outside}
-use Rattle.frames.specs.Parts.{CommittedParts, Readable}
+use Rattle.card.specs.declared.refusal.Refusal.{Refusal}
 use Rattle.frames.specs.Promise as frames
 use Rattle.frames.specs.Promise.{Lent, meaning_of, common, Outcome, outcome_of, Keeps, FrameCall, FrameAnswer, numbered, past}
 use Rattle.pages.specs.Call.{PageCall, Call, start, on, snapshot, page_out, advance, forecast, Answer, refused, done, counted, wrote, foretold, page_asks, edits, page_answer, page_refusal}
 use Rattle.pages.specs.Change.{at_place, edit_frames}
 use Rattle.pages.specs.Needed.{needed}
 use Rattle.pages.specs.Page.{Page, page_of, format_card}
-use Rattle.pages.specs.declared.answer.Count.{Count}
-use Rattle.pages.specs.declared.answer.Count.TheVariants.{Present, Refused}
-use Rattle.pages.specs.declared.answer.Forecast.{Forecast}
-use Rattle.pages.specs.declared.answer.Forecast.TheVariants as Forecasts
-use Rattle.pages.specs.declared.named.Named.{Named}
 use Rattle.record.specs.declared.store.Geometry.{Geometry}
 use Rattle.record.specs.declared.store.Store.{Store}
 use Rattle.recovery.specs.Contents.{Contents, FrameBytes}
@@ -33,13 +27,13 @@ answered (frames.refused n) = refused n
 answered frames.done = done
 answered (frames.wrote k n) = wrote k n
 
-unfoldable pub counted_as : Count → Answer
-counted_as (Present n) = counted n
-counted_as (Refused n) = refused n
+unfoldable pub counted_as : Result ℕ Refusal → Answer
+counted_as (Ok n) = counted n
+counted_as (Err r) = refused (number r)
 
-unfoldable pub foretold_as : Forecast → Answer
-foretold_as (Forecasts.Advances n) = foretold n
-foretold_as (Forecasts.Refused n) = refused n
+unfoldable pub foretold_as : Result ℕ Refusal → Answer
+foretold_as (Ok n) = foretold n
+foretold_as (Err r) = refused (number r)
 
 -- ---- pages
 
@@ -162,21 +156,15 @@ PassedIs s card n = (memory : List ℕ) → n ≡ passed_of (frames.lent s memor
 abbrev pub MovesIs : Store → List ℕ → ℕ → Type 0
 MovesIs s card n = (memory : List ℕ) → 0 < s.pending.count → n ≡ moves_left (over (frames.lent s memory card)) (meaning_of (frames.lent s memory card))
 
--- Whether migration passes over a frame, by the parts of a record: some record with these parts is lent with the card, and
--- the frame is one of its home blocks; and what is told of every such record.
-pub record OverAsked (g : Geometry) (first : ℕ) (frames places : List ℕ) (count : ℕ) (card : List ℕ) (f : ℕ) : Type 0 where
-  pub store : Store
-  pub geometry_is : g ≡ store.geometry
-  pub parts : CommittedParts store g.area first frames places count
-  pub readable : Readable store card
-  pub home : (g.area < f) × (f < g.blocks)
+-- a page that a call names by its OID: the number of question 21 or 9, or its place
+pub record NamedIs (g : Geometry) (oid : ℕ) (r : Result Address Refusal) : Type 0 where
+  pub refusal_is : told r ≡ first_no (placed (place_in g oid) (λ p. []))
+  pub place_is : IfOk r (λ p. place_in g oid ≡ Located p)
+  pub entry_high : IfOk r (λ p. p.entry < 102)
 
-abbrev pub OverBy : Geometry → ℕ → List ℕ → List ℕ → ℕ → List ℕ → ℕ → Bool → Type 0
-OverBy g first frames places count card f r = (s : Store) → g ≡ s.geometry → CommittedParts s g.area first frames places count → Readable s card → OverIs s card f r
-
--- a page that a call names by its OID: the number of question 21 or 9, or 0 and its place. Its entry is one of a pot's in
--- any case
-pub record NamedIs (g : Geometry) (oid : ℕ) (r : Named) : Type 0 where
-  pub refusal_is : r.refusal ≡ first_no (placed (place_in g oid) (λ p. []))
-  pub place_is : r.refusal ≡ 0 → place_in g oid ≡ Located r.address
-  pub entry_high : r.address.entry < 102
+-- 1 to 3, 21 and 9 are passed: the page's place, and the bytes of its pot
+pub record PotFound (l : Lent) (oid : ℕ) (p : Address) (pot : List ℕ) : Type 0 where
+  pub passed : first_no (common l) ≡ 0
+  pub place_is : address_of l oid ≡ Located p
+  pub pot_is : pot ≡ present_frames l p.pot
+  pub entry_high : p.entry < 102

@@ -3,7 +3,3 @@
 // and `pages_checkpoint`. It rests on the frame layer's promise, and of the record it reads area and ranges, and which
 // committed frames are home or passed over; the rest of the committed directory it hands on unread.
 #![tactic(auto)]
-
-pub mod answer;
-pub mod home;
-pub mod named;

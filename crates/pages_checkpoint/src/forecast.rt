@@ -5,17 +5,13 @@ ghost use Rattle.pages.specs.Call.{forecast};
 ghost use Rattle.pages.specs.Promise.{foretold_as, Kept};
 
 use super::home;
+use card::refusal::Refusal;
 use frames_load::{forecast, question};
-use pages::answer::Forecast;
 use record::store::Store;
 
-pub fn forecast(s: Store, card: &[u8], memory: &[u8]) -> Forecast
+pub fn forecast(s: Store, card: &[u8], memory: &[u8]) -> Result<u32, Refusal>
     ensures { Kept forecast (lent s memory.now card.now) (foretold_as result) (lent s memory.now card.now) }
 {
-    let no = question::common(s, memory.len(), card.len());
-    if no != 0 {
-        return Forecast::Refused(no);
-    }
-    let moves = home::moves(s, card);
-    Forecast::Advances(forecast::forecast(s, moves))
+    question::common(&s, memory.len(), card.len())?;
+    Ok(forecast::forecast(&s, home::moves(&s, card)))
 }

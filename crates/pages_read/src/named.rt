@@ -1,63 +1,68 @@
-// The page that a call names: its place (questions 21 and 9), question 10 with the one that is asked behind it, 11 or
-// 15, and its zero flag.
-ghost use Rattle.std.specs.Prelude.{◌≡◌, [], ◌∷◌, ◌≤◌, ◌<◌, eqb, length};
+// The page that a call names: its place (questions 21 and 9) and its pot, question 10 with the one that is asked behind
+// it, 11 or 15, and its zero flag.
+ghost use Rattle.std.specs.Prelude.{◌≡◌, [], ◌∷◌, ◌++◌, ◌≤◌, ◌<◌, eqb, IfOk};
 ghost use Rattle.card.specs.Question.{ask, first_no};
 ghost use Rattle.card.specs.Pot.{count_at, is_zero, flags_at};
-ghost use Rattle.pages.specs.Promise.{NamedIs};
+ghost use Rattle.card.specs.Refusal.{number, told};
+ghost use Rattle.frames.specs.Promise.{lent, common};
+ghost use Rattle.pages.specs.Promise.{NamedIs, PotFound, placed, address_of};
 
-use card::range::{Address, Lookup};
+use card::range::Address;
+use card::refusal::Refusal;
 use card_places::{pot, range};
-use pages::named::Named;
-use record::store::Geometry;
-
-fn refused(no: u32) -> Named
-    ensures { (result.refusal ≡ no) × (result.address.entry < 102) }
-{
-    let address = Address {
-        page: 0,
-        pot: 0,
-        entry: 0,
-    };
-    Named {
-        refusal: no,
-        address: address,
-    }
-}
+use frames_load::{load, question};
+use record::store::{Geometry, Store};
 
 // Its place by its OID: 21, 9.
-pub fn find(g: Geometry, oid: u32) -> Named
-    requires { (g.area ≤ 512) × (g.count ≤ 8) }
-    ensures { NamedIs g oid result }
+pub fn find(g: &Geometry, oid: u32) -> Result<Address, Refusal>
+    requires area { g.now.area ≤ 512 }
+    requires few { g.now.count ≤ 8 }
+    ensures { NamedIs g.now oid result }
 {
-    match range::find(g.area, &g.ranges, g.count, oid) {
-        Lookup::Located(address) => Named {
-            refusal: 0,
-            address: address,
-        },
-        Lookup::Gap => refused(21),
-        Lookup::Outside => refused(9),
-    }
+    range::find(g.area, &g.ranges[..2 * g.count], oid)
 }
 
-// By its key: 10, and then one question more.
-pub fn check(pot: &[u8], entry: usize, count: u32, number: u32, yes: bool) -> u32
-    requires { (length pot.now ≡ 512) × (entry < 102) }
-    ensures { result ≡ first_no (ask 10 (eqb (count_at pot.now entry) count) ∷ ask number yes ∷ []) }
+// Its place and its pot, for every call on a page: 1 to 3, 21, 9. Card and memory are lent for one lifetime: the pot is
+// a part of either.
+pub fn pot<'a>(
+    s: &Store,
+    card: &'a [u8],
+    memory: &'a [u8],
+    oid: u32,
+) -> Result<(Address, &'a [u8; 512]), Refusal>
+    ensures told { told result ≡ first_no (common (lent s.now memory.now card.now) ++ placed (address_of (lent s.now memory.now card.now) oid) (λ p. [])) }
+    ensures found { IfOk result (λ x. PotFound (lent s.now memory.now card.now) oid x.0 x.1.now) }
+{
+    question::common(s, memory.len(), card.len())?;
+    let place = find(&s.geometry, oid)?;
+    Ok((place, load::load(s, card, memory, place.pot)))
+}
+
+// By its key: 10, and then one question more, which `other` refuses.
+#[tactic(auto, unfolding(card::specs::Question::first_no))]
+pub fn check(
+    pot: &[u8; 512],
+    entry: usize,
+    count: u32,
+    yes: bool,
+    other: Refusal,
+) -> Result<(), Refusal>
+    requires { entry < 102 }
+    ensures { told result ≡ first_no (ask 10 (eqb (count_at pot.now entry) count) ∷ ask (number other) yes ∷ []) }
 {
     if pot::count_at(pot, entry) != count {
-        return 10;
+        return Err(Refusal::Count);
     }
-    if yes {
-        return 0;
+    if !yes {
+        return Err(other);
     }
-    number
+    Ok(())
 }
 
 // Is its flag set?
-pub fn is_zero(pot: &[u8], entry: usize) -> bool
-    requires { (length pot.now ≡ 512) × (entry < 102) }
+pub fn is_zero(pot: &[u8; 512], entry: usize) -> bool
+    requires { entry < 102 }
     ensures { result ≡ is_zero (flags_at pot.now entry) }
 {
-    let flags = pot::flags_at(pot, entry);
-    pot::is_zero(flags)
+    pot::is_zero(pot::flags_at(pot, entry))
 }

@@ -1,11 +1,13 @@
-// Read: a page's bytes into a buffer of 512. It changes nothing else, and hands back its number alone.
+// Read: a page's bytes into a buffer of 512. It changes nothing else.
+ghost use Rattle.card.specs.Refusal.{told};
 ghost use Rattle.frames.specs.Promise.{lent};
 ghost use Rattle.pages.specs.Call.{on, read, filled};
 ghost use Rattle.pages.specs.Promise.{Kept};
 
 use super::named;
+use card::refusal::Refusal;
 use card_blocks::block;
-use frames_load::{load, question};
+use frames_load::load;
 use record::store::Store;
 
 // Card and memory are lent for one lifetime: pot and page are parts of either.
@@ -16,29 +18,22 @@ pub fn read<'a>(
     oid: u32,
     count: u32,
     buffer: &mut [u8],
-) -> u32
-    ensures { Kept (on oid (read count buffer.old)) (lent s memory.now card.now) (filled result buffer.new)
+) -> Result<(), Refusal>
+    ensures { Kept (on oid (read count buffer.old)) (lent s memory.now card.now) (filled (told result) buffer.new)
         (lent s memory.now card.now) }
 {
-    let common = question::common(s, memory.len(), card.len());
-    if common != 0 {
-        return common;
+    let (place, pot) = named::pot(&s, card, memory, oid)?;
+    named::check(
+        pot,
+        place.entry,
+        count,
+        buffer.len() == 512,
+        Refusal::Length,
+    )?;
+    if named::is_zero(pot, place.entry) {
+        buffer.copy_from_slice(&block::empty());
+    } else {
+        buffer.copy_from_slice(load::load(&s, card, memory, place.page));
     }
-    let g = s.geometry;
-    let n = named::find(g, oid);
-    if n.refusal != 0 {
-        return n.refusal;
-    }
-    let pot = load::load(s, card, memory, n.address.pot);
-    let no = named::check(pot, n.address.entry, count, 11, buffer.len() == 512);
-    if no != 0 {
-        return no;
-    }
-    if named::is_zero(pot, n.address.entry) {
-        let empty = block::empty();
-        buffer.copy_from_slice(&empty);
-        return 0;
-    }
-    buffer.copy_from_slice(load::load(s, card, memory, n.address.page));
-    0
+    Ok(())
 }

@@ -1,23 +1,24 @@
 // Rescind: the count rises by 1 and the flag is set, so that no key made before fits. Only the pot changes.
-ghost use Rattle.std.specs.Prelude.{◌≡◌, ◌<◌, length};
+ghost use Rattle.std.specs.Prelude.{◌≡◌, ◌<◌};
 ghost use Rattle.card.specs.Pot.{count_at};
+ghost use Rattle.card.specs.Refusal.{told};
 ghost use Rattle.frames.specs.Promise.{lent, numbered};
 ghost use Rattle.pages.specs.Call.{on, rescind};
 ghost use Rattle.pages.specs.Change.{rescind_pot};
 ghost use Rattle.pages.specs.Promise.{answered, Kept};
 
-use super::answer;
-use card_blocks::{block, number};
+use card::refusal::Refusal;
 use card_places::pot;
 use frames::answer::Done;
 use frames_change::change;
-use frames_load::{load, question};
 use pages_read::named;
 use record::store::Store;
 
 // In a pot: the count of entry i risen, its flag set.
-fn raise(pot: &mut [u8], i: usize)
-    requires { (length pot.old ≡ 512) × ((i < 102) × (count_at pot.old i < 4294967295)) }
+#[tactic(auto, unfolding(pages::specs::Change::rescind_pot))]
+fn raise(pot: &mut [u8; 512], i: usize)
+    requires entry { i < 102 }
+    requires few { count_at pot.old i < 4294967295 }
     ensures { pot.new ≡ rescind_pot pot.old i }
 {
     let count = pot::count_at(pot, i);
@@ -26,26 +27,36 @@ fn raise(pot: &mut [u8], i: usize)
     pot::put_flags(pot, i, pot::set_zero(flags));
 }
 
-pub fn rescind(s: Store, card: &[u8], memory: &mut [u8], oid: u32, count: u32) -> Done
-    ensures { Kept (on oid (rescind count)) (lent s memory.old card.now) (answered (numbered result.answer))
+// Over a lent record.
+fn empty(s: &mut Store, card: &[u8], memory: &mut [u8], oid: u32, count: u32) -> Result<(), Refusal>
+    ensures { Kept (on oid (rescind count)) (lent s.old memory.old card.now) (answered (numbered (told result)))
+        (lent s.new memory.new card.now) }
+{
+    let (place, pot) = named::pot(s, card, memory, oid)?;
+    named::check(
+        pot,
+        place.entry,
+        count,
+        count < u32::MAX,
+        Refusal::LastCount,
+    )?;
+    let mut pot = *pot;
+    raise(&mut pot, place.entry);
+    change::change(s, memory, &[place.pot as u16], &pot)
+}
+
+// By value, as document 01 names the form of the calls; what it comes to is done over a lent record.
+pub fn rescind(
+    s: Store,
+    card: &[u8],
+    memory: &mut [u8],
+    oid: u32,
+    count: u32,
+) -> Done<Result<(), Refusal>>
+    ensures { Kept (on oid (rescind count)) (lent s memory.old card.now) (answered (numbered (told result.answer)))
         (lent result.store memory.new card.now) }
 {
-    let common = question::common(s, memory.len(), card.len());
-    if common != 0 {
-        return answer::unchanged(s, common);
-    }
-    let g = s.geometry;
-    let n = named::find(g, oid);
-    if n.refusal != 0 {
-        return answer::unchanged(s, n.refusal);
-    }
-    let found = load::load(s, card, memory, n.address.pot);
-    let no = named::check(found, n.address.entry, count, 15, count < 4294967295);
-    if no != 0 {
-        return answer::unchanged(s, no);
-    }
-    let mut pot = block::array(found);
-    raise(&mut pot, n.address.entry);
-    let names = [number::short(n.address.pot)];
-    change::put(s, change::change(s, memory, &names, &pot))
+    let mut store = s;
+    let answer = empty(&mut store, card, memory, oid, count);
+    Done { answer, store }
 }

@@ -3,7 +3,8 @@
 use Prim.Native.Nat.{ℕ, ◌+◌, ◌-◌, ◌≤◌, ◌<◌}
 use borrow.Author.Tests.{ltb-true, leb-true, eqb-true, le-leb, lt-leb, eq-eqb, ne_eqb}
 use lib.Dec.{leb, eqb}
-use mathlib.Core.Bool.{true}
+use lib.ListN.{length, take}
+use mathlib.Core.Bool.{true, ◌&&◌}
 use mathlib.Core.List.{List, []}
 use mathlib.Core.Logic.{⊎_elim}
 use mathlib.Core.Path.{◌≡◌, refl, sym, ◌∙◌}
@@ -13,10 +14,10 @@ use Rattle.card.proofs.RingLaws.{size_some, entries_small}
 use Rattle.card.proofs.Test.{both, le_or_lt, each_no, each_end}
 use Rattle.card.specs.Range.{ranges_of}
 use Rattle.card.specs.Ring.{half}
-use Rattle.record.proofs.ListLaws.{cells_none}
+use Rattle.record.proofs.ListLaws.{cells_none, cells_take}
 use Rattle.record.specs.Holds.{geometry_holds, committed_holds, pending_holds, current_holds, sizes_hold, counts_hold, spans_hold, directory_holds, changes_hold}
 use Rattle.record.specs.Lists.{alone, all_alone, all_within, all_rising}
-use Rattle.record.specs.Meaning.{size_of, committed_size_of}
+use Rattle.record.specs.Meaning.{waits, size_of, committed_size_of}
 use Rattle.record.specs.declared.store.Changes.{Changes}
 use Rattle.record.specs.declared.store.Store.{Store}
 
@@ -43,6 +44,19 @@ none_filed area blocks p frames spots n e = rw (e, cells_none frames, cells_none
 pub none_hold : (area blocks : ℕ) (g : Changes) → g.count ≡ 0 → changes_hold area blocks g ≡ leb g.taken g.down
 unfolding changes_hold
 none_hold area blocks g e = rw (none_filed area blocks g.taken g.frames g.places g.count e, e, cells_none g.places) (stand_none g.down g.taken)
+
+-- ---- a directory as slices have it
+
+pub filed_slices : (area blocks p : ℕ) (frames spots : List ℕ) (n : ℕ) → n ≤ length frames → n ≤ length spots
+    → (all_rising (area + 1) blocks (take n frames) && all_within 0 p (take n spots)) ≡ directory_holds area blocks p frames spots n
+unfolding directory_holds
+filed_slices area blocks p frames spots n h k = rw (cells_take frames n h, cells_take spots n k)
+
+pub changes_slices : (area blocks : ℕ) (g : Changes) → g.count ≤ length g.frames → g.count ≤ length g.places
+    → ((all_rising (area + 1) blocks (take g.count g.frames) && all_within 0 g.taken (take g.count g.places)) && all_alone (take g.count g.places) g.down (waits g))
+    ≡ changes_hold area blocks g
+unfolding changes_hold
+changes_slices area blocks g h k = rw (filed_slices area blocks g.taken g.frames g.places g.count h k, cells_take g.places g.count k)
 
 -- ---- sizes
 

@@ -1,6 +1,7 @@
 -- A generation without a change: what it means, and that it holds together.
 -- Assumes nothing.
 use Prim.Native.Nat.{ℕ}
+use lib.ListN.{replicate}
 use mathlib.Core.List.{List, []}
 use mathlib.Core.Path.{◌≡◌, refl, ap}
 use native.Mathlib.Omega.{arith}
@@ -53,3 +54,8 @@ module _ (g : Changes) (none : NoChange g) where
     };
     stands = λ k l h. absurd (omega (arith, none.taken));
   }
+
+-- ---- records of zeros, field by field
+
+pub zero_changes_are : (g : Changes) → g.count ≡ 0 → g.taken ≡ 0 → g.down ≡ 0 → g.frames ≡ replicate 256 0 → g.places ≡ replicate 256 0 → g ≡ zero_changes
+zero_changes_are g count taken down frames places = λ i. record { count = count i; taken = taken i; down = down i; frames = frames i; places = places i }

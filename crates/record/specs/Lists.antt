@@ -1,6 +1,6 @@
 -- Tests over numbers, and what a search finds.
 -- Assumes nothing.
-use Rattle.std.specs.Prelude.{ℕ, suc, ◌≤◌, ◌<◌, leb, ltb, eqb, get_or, Bool, true, false, cond, ◌&&◌, not, List, [], ◌∷◌, ◌≢◌, ◌≡◌}
+use Rattle.std.specs.Prelude.{ℕ, suc, ◌≤◌, ◌<◌, leb, ltb, eqb, length, get_or, Bool, true, false, cond, ◌&&◌, not, List, [], ◌∷◌, ◌≢◌, ◌≡◌, Result, Ok, Err}
 use Rattle.card.specs.Bytes.{tabulate, each}
 
 -- n elements of an array, from the i-th on
@@ -59,3 +59,8 @@ pub record First (l : List ℕ) (n x i : ℕ) : Type 0 where
   pub most : i ≤ n
   pub is : i < n → get_or l i 0 ≡ x
   pub before : (j : ℕ) → j < i → get_or l j 0 ≢ x
+
+-- where x stands among elements that rise; or, where it does not stand there, its place among them
+abbrev pub Sought : List ℕ → ℕ → Result ℕ ℕ → Type 0
+Sought l x (Ok i) = First l (length l) x i × (i < length l)
+Sought l x (Err i) = Below l (length l) x i × ((j : ℕ) → j < length l → get_or l j 0 ≢ x)

@@ -1,9 +1,11 @@
 // The record: what the store knows between calls.
 use card::directory::Directory;
 
-// The card's size, A, and the ranges: first OID and number of pages of each in turn.
+// The card's size, A, and the ranges: first OID and number of pages of each in turn, of which the first 2 × count
+// matter. Here and below arrays have their lengths beside them, and a phase is a number, since C has the record's form
+// (include/lane.h) and there is no heap.
 #[repr(C)]
-#[derive(Clone, Copy)]
+#[derive(Clone, Copy, Default)]
 pub struct Geometry {
     pub blocks: usize,
     pub area: usize,
@@ -15,7 +17,7 @@ pub struct Geometry {
 // places taken; places put down. Place i is the block i on from the generation's first: a generation's size is at
 // most 256, so that a byte holds its places. A frame waits where its place is not down.
 #[repr(C)]
-#[derive(Clone, Copy)]
+#[derive(Clone, Copy, Default)]
 pub struct Changes {
     pub count: usize,
     pub taken: usize,
@@ -31,7 +33,7 @@ pub struct Changes {
 // committed entries copied home or passed over, `tail` the pending directory's and trailer's blocks that are down.
 // There is no gap between the fields: a record that is put together anew from the same fields has the same bytes.
 #[repr(C)]
-#[derive(Clone, Copy)]
+#[derive(Clone, Copy, Default)]
 pub struct Store {
     pub frames: usize,
     pub head: usize,

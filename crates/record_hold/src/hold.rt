@@ -1,65 +1,56 @@
-// Question 2: does the record hold together? Sizes are asked before any loop, so that no directory is read beyond its array.
-ghost use Rattle.std.specs.Prelude.{◌≡◌, true, ◌+◌, ◌≤◌, ◌<◌, leb};
+// Question 2: does the record hold together? Counts and sizes are asked before any directory, so that none is read
+// beyond its arrays. The fields may be any numbers, so that what is known of them stands in each `requires`.
+ghost use Rattle.std.specs.Prelude.{◌≡◌, true, ◌&&◌, ◌+◌, ◌≤◌, ◌<◌, leb};
 ghost use Rattle.card.specs.Ring.{generation_size};
-ghost use Rattle.record.specs.Holds.{geometry_holds, committed_holds, pending_holds, current_holds, sizes_hold, tail_for, tail_holds, flushed_holds, phase_holds, order_holds, memory_holds, counts_hold, spans_hold, directory_holds, changes_hold, holds_together};
+ghost use Rattle.record.specs.Holds.{geometry_holds, committed_holds, pending_holds, current_holds, sizes_hold};
+ghost use Rattle.record.specs.Holds.{tail_for, tail_holds, flushed_holds, phase_holds, order_holds, memory_holds};
+ghost use Rattle.record.specs.Holds.{counts_hold, spans_hold, directory_holds, changes_hold, holds_together};
+ghost use Rattle.record.specs.Lists.{all_rising, all_within};
+ghost use Rattle.record.specs.Meaning.{waits, size_of, committed_size_of};
 
+use card::directory::Directory;
 use card_blocks::ring;
 use card_places::range;
-use record::store::{Geometry, Store};
+use record::store::{Changes, Geometry, Store};
 use record_list::list;
 
-fn geometry_holds(g: Geometry) -> bool
-    ensures { result ≡ geometry_holds g }
+#[tactic(auto, using(card::proofs::RangeLaws::geometry_many, card::proofs::RangeLaws::ranges_of_front), unfolding(record::specs::Holds::geometry_holds))]
+fn geometry_holds(g: &Geometry) -> bool
+    ensures { result ≡ geometry_holds g.now }
 {
-    range::fits(g.blocks, g.area, &g.ranges, g.count)
+    g.count <= 8 && range::fits(g.blocks, g.area, &g.ranges[..2 * g.count])
 }
 
-fn committed_holds(commit: u32, area: usize, first: usize, p: usize, e: usize) -> bool
-    ensures { result ≡ committed_holds commit area first p e }
+#[tactic(auto, unfolding(record::specs::Holds::committed_holds))]
+fn committed_holds(s: &Store) -> bool
+    ensures { let s = s.now in
+        result ≡ committed_holds s.commit s.geometry.area s.first s.pages s.committed.count }
 {
-    if commit == 0 {
-        if e != 0 {
-            return false;
-        }
-        if p != 0 {
-            return false;
-        }
-        return first == 1;
+    let entries = s.committed.count;
+    if s.commit == 0 {
+        entries == 0 && s.pages == 0 && s.first == 1
+    } else {
+        1 <= entries && entries <= s.pages && 1 <= s.first && s.first <= s.geometry.area
     }
-    if e < 1 {
-        return false;
-    }
-    if p < e {
-        return false;
-    }
-    if first < 1 {
-        return false;
-    }
-    first <= area
 }
 
-fn pending_holds(commit: u32, p: usize, e: usize, down: usize) -> bool
-    ensures { result ≡ pending_holds commit p e down }
+#[tactic(auto, unfolding(record::specs::Holds::pending_holds))]
+fn pending_holds(commit: u32, g: &Changes) -> bool
+    ensures { result ≡ pending_holds commit g.now.taken g.now.count g.now.down }
 {
-    if p < down {
-        return false;
-    }
-    if e == 0 {
-        return p == 0;
-    }
-    if p < e {
-        return false;
-    }
-    commit < 4294967295
+    let filled = if g.count == 0 {
+        g.taken == 0
+    } else {
+        g.count <= g.taken && commit < u32::MAX
+    };
+    g.down <= g.taken && filled
 }
 
-fn current_holds(p: usize, e: usize, down: usize) -> bool
-    ensures { result ≡ current_holds p e down }
+#[tactic(auto, unfolding(record::specs::Holds::current_holds))]
+fn current_holds(g: &Changes) -> bool
+    ensures { result ≡ current_holds g.now.taken g.now.count g.now.down }
 {
-    if p < e {
-        return false;
-    }
-    down <= p
+    g.count <= g.taken && g.down <= g.taken
 }
 
 // Is a generation's size at most half? The numbers may be anything.
@@ -67,16 +58,7 @@ pub fn size_fits(p: usize, e: usize, half: usize) -> bool
     requires { half ≤ 256 }
     ensures { result ≡ leb (generation_size p e) half }
 {
-    if e == 0 {
-        return true;
-    }
-    if half < p {
-        return false;
-    }
-    if 64 * half < e {
-        return false;
-    }
-    ring::size(p, e) <= half
+    e == 0 || p <= half && e <= 64 * half && ring::size(p, e) <= half
 }
 
 // A generation's size, where it is known to be small.
@@ -91,23 +73,23 @@ pub fn size(p: usize, e: usize) -> usize
 }
 
 // Is each size at most half the area, and are all together at most the area?
-fn sizes_hold(area: usize, p: usize, e: usize, q: usize, f: usize, r: usize, g: usize) -> bool
-    requires { area ≤ 512 }
-    ensures { result ≡ sizes_hold area (generation_size p e) (generation_size q f) (generation_size r g) }
+#[tactic(auto, unfolding(record::specs::Holds::sizes_hold))]
+fn sizes_hold(s: &Store) -> bool
+    requires { s.now.geometry.area ≤ 512 }
+    ensures { let s = s.now in
+        result ≡ sizes_hold s.geometry.area (committed_size_of s) (size_of s.pending) (size_of s.current) }
 {
-    let half = area / 2;
-    if !size_fits(p, e, half) {
+    let half = s.geometry.area / 2;
+    let (p, e) = (s.pages, s.committed.count);
+    let (q, f) = (s.pending.taken, s.pending.count);
+    let (r, g) = (s.current.taken, s.current.count);
+    if !(size_fits(p, e, half) && size_fits(q, f, half) && size_fits(r, g, half)) {
         return false;
     }
-    if !size_fits(q, f, half) {
-        return false;
-    }
-    if !size_fits(r, g, half) {
-        return false;
-    }
-    size(p, e) + size(q, f) + size(r, g) <= area
+    size(p, e) + size(q, f) + size(r, g) <= s.geometry.area
 }
 
+#[tactic(auto, unfolding(record::specs::Holds::tail_for))]
 fn tail_for(e: usize) -> usize
     requires { e ≤ 65536 }
     ensures { result ≡ tail_for e }
@@ -115,247 +97,147 @@ fn tail_for(e: usize) -> usize
     if e == 0 {
         return 0;
     }
-    (e + 63) / 64 + 1
+    e.div_ceil(64) + 1
 }
 
+// How many frames of a generation wait.
+fn waits(g: &Changes) -> usize
+    requires { g.now.down ≤ g.now.taken }
+    ensures { result ≡ waits g.now }
+{
+    g.taken - g.down
+}
+
+#[tactic(auto, unfolding(record::specs::Holds::flushed_holds))]
+fn flushed_holds(s: &Store) -> bool
+    requires { s.now.pending.count ≤ 65536 }
+    ensures { result ≡ flushed_holds s.now.migrated s.now.committed.count s.now.tail s.now.pending.count }
+{
+    let pending = s.pending.count;
+    pending != 0 && s.tail == tail_for(pending) && s.committed.count <= s.migrated
+}
+
+#[tactic(auto, unfolding(record::specs::Holds::phase_holds))]
+fn phase_holds(s: &Store) -> bool
+    requires { s.now.pending.count ≤ 65536 }
+    ensures { let s = s.now in
+        result ≡ phase_holds s.phase s.migrated s.committed.count s.tail s.pending.count }
+{
+    match s.phase {
+        0 => true,
+        1 => flushed_holds(s),
+        2 => s.migrated == 0 && s.tail == 0,
+        _ => false,
+    }
+}
+
+#[tactic(auto, unfolding(record::specs::Holds::tail_holds))]
 fn tail_holds(tail: usize, waiting: usize) -> bool
     ensures { result ≡ tail_holds tail waiting }
 {
-    if tail == 0 {
+    tail == 0 || waiting == 0
+}
+
+#[tactic(auto, unfolding(record::specs::Holds::order_holds))]
+fn order_holds(s: &Store, waiting: usize) -> bool
+    requires { s.now.pending.count ≤ 65536 }
+    ensures { let s = s.now in
+        result ≡ order_holds s.migrated s.committed.count s.tail s.pending.count waiting s.phase }
+{
+    s.migrated <= s.committed.count
+        && s.tail <= tail_for(s.pending.count)
+        && tail_holds(s.tail, waiting)
+        && phase_holds(s)
+}
+
+// Do a and b waiting frames fit memory?
+#[tactic(auto, unfolding(record::specs::Holds::memory_holds))]
+fn memory_holds(s: &Store, a: usize, b: usize) -> bool
+    ensures { result ≡ memory_holds s.now.frames s.now.head (a + b) }
+{
+    s.head < s.frames && a <= s.frames && b <= s.frames - a
+}
+
+#[tactic(auto, unfolding(record::specs::Holds::counts_hold))]
+fn counts_hold(s: &Store) -> bool
+    ensures { result ≡ counts_hold s.now }
+{
+    geometry_holds(&s.geometry)
+        && committed_holds(s)
+        && pending_holds(s.commit, &s.pending)
+        && current_holds(&s.current)
+}
+
+#[tactic(auto, unfolding(record::specs::Holds::spans_hold))]
+fn spans_hold(s: &Store) -> bool
+    requires { counts_hold s.now ≡ true }
+    ensures { result ≡ spans_hold s.now }
+{
+    let pending = waits(&s.pending);
+    let current = waits(&s.current);
+    sizes_hold(s) && order_holds(s, pending) && memory_holds(s, pending, current)
+}
+
+// Does a directory of a generation of p places hold?
+fn directory_holds(area: usize, blocks: usize, p: usize, frames: &[u16], places: &[u8]) -> bool
+    requires area { area ≤ 512 }
+    requires taken { p < 256 }
+    ensures { result ≡ (all_rising (area + 1) blocks frames.now && all_within 0 p places.now) }
+{
+    list::all_rise(frames, area + 1, blocks) && list::all_taken(places, p)
+}
+
+// Do the changes of a generation hold? An empty directory is settled first: its places may be many.
+fn changes_hold(area: usize, blocks: usize, g: &Changes) -> bool
+    requires area { area ≤ 512 }
+    requires entries { g.now.count ≤ g.now.taken }
+    requires taken { 0 < g.now.count → g.now.taken < 256 }
+    ensures { result ≡ changes_hold area blocks g.now }
+{
+    if g.count == 0 {
+        return g.taken <= g.down;
+    }
+    let frames = &g.frames[..g.count];
+    let places = &g.places[..g.count];
+    directory_holds(area, blocks, g.taken, frames, places)
+        && list::all_stand(places, g.down, g.taken)
+}
+
+// Does the committed directory hold, that of a generation of p places? Again an empty one first.
+fn committed_listed(area: usize, blocks: usize, p: usize, d: &Directory) -> bool
+    requires area { area ≤ 512 }
+    requires entries { d.now.count ≤ 256 }
+    requires taken { 0 < d.now.count → p < 256 }
+    ensures { result ≡ directory_holds area blocks p d.now.frames d.now.places d.now.count }
+{
+    if d.count == 0 {
         return true;
     }
-    waiting == 0
+    let frames = &d.frames[..d.count];
+    let places = &d.places[..d.count];
+    directory_holds(area, blocks, p, frames, places)
 }
 
-fn flushed_holds(migrated: usize, committed: usize, tail: usize, pending: usize) -> bool
-    requires { pending ≤ 65536 }
-    ensures { result ≡ flushed_holds migrated committed tail pending }
+// Do all three directories hold?
+fn listed(s: &Store) -> bool
+    requires counts { counts_hold s.now ≡ true }
+    requires spans { spans_hold s.now ≡ true }
+    ensures { let area = s.now.geometry.area in
+        let blocks = s.now.geometry.blocks in
+        let d = s.now.committed in
+        result ≡ (directory_holds area blocks s.now.pages d.frames d.places d.count
+        && (changes_hold area blocks s.now.pending && changes_hold area blocks s.now.current)) }
 {
-    if pending == 0 {
-        return false;
-    }
-    if tail != tail_for(pending) {
-        return false;
-    }
-    committed <= migrated
-}
-
-fn phase_holds(phase: u32, migrated: usize, committed: usize, tail: usize, pending: usize) -> bool
-    requires { pending ≤ 65536 }
-    ensures { result ≡ phase_holds phase migrated committed tail pending }
-{
-    if phase == 0 {
-        return true;
-    }
-    if phase == 1 {
-        return flushed_holds(migrated, committed, tail, pending);
-    }
-    if phase != 2 {
-        return false;
-    }
-    if migrated != 0 {
-        return false;
-    }
-    tail == 0
-}
-
-fn order_holds(
-    migrated: usize,
-    committed: usize,
-    tail: usize,
-    pending: usize,
-    waiting: usize,
-    phase: u32,
-) -> bool
-    requires { pending ≤ 65536 }
-    ensures { result ≡ order_holds migrated committed tail pending waiting phase }
-{
-    if committed < migrated {
-        return false;
-    }
-    if tail_for(pending) < tail {
-        return false;
-    }
-    if !tail_holds(tail, waiting) {
-        return false;
-    }
-    phase_holds(phase, migrated, committed, tail, pending)
-}
-
-fn memory_holds(frames: usize, head: usize, a: usize, b: usize) -> bool
-    ensures { result ≡ memory_holds frames head (a + b) }
-{
-    if frames <= head {
-        return false;
-    }
-    if frames < a {
-        return false;
-    }
-    b <= frames - a
-}
-
-fn counts_hold(s: Store) -> bool
-    ensures { result ≡ counts_hold s }
-{
-    let g = s.geometry;
-    if !geometry_holds(g) {
-        return false;
-    }
-    if !committed_holds(
-        s.commit,
-        s.geometry.area,
-        s.first,
-        s.pages,
-        s.committed.count,
-    ) {
-        return false;
-    }
-    if !pending_holds(s.commit, s.pending.taken, s.pending.count, s.pending.down) {
-        return false;
-    }
-    current_holds(s.current.taken, s.current.count, s.current.down)
-}
-
-fn spans_hold(s: Store) -> bool
-    requires { counts_hold s ≡ true }
-    ensures { result ≡ spans_hold s }
-{
-    if !sizes_hold(
-        s.geometry.area,
-        s.pages,
-        s.committed.count,
-        s.pending.taken,
-        s.pending.count,
-        s.current.taken,
-        s.current.count,
-    ) {
-        return false;
-    }
-    let p = s.pending.taken - s.pending.down;
-    let c = s.current.taken - s.current.down;
-    if !order_holds(
-        s.migrated,
-        s.committed.count,
-        s.tail,
-        s.pending.count,
-        p,
-        s.phase,
-    ) {
-        return false;
-    }
-    memory_holds(s.frames, s.head, p, c)
-}
-
-// Does a directory of n entries in a generation of p places hold?
-fn directory_holds<'a>(
-    area: usize,
-    blocks: usize,
-    p: usize,
-    frames: &'a [u16; 256],
-    places: &'a [u8; 256],
-    n: usize,
-) -> bool
-    requires { (area ≤ 512) × ((n ≤ 256) × (p < 256)) }
-    ensures { result ≡ directory_holds area blocks p frames.now places.now n }
-{
-    if !list::all_rise(frames, n, area + 1, blocks) {
-        return false;
-    }
-    list::all_taken(places, n, p)
-}
-
-// Does that of a generation of which d places are down?
-fn changes_hold<'a>(
-    area: usize,
-    blocks: usize,
-    n: usize,
-    p: usize,
-    d: usize,
-    frames: &'a [u16; 256],
-    places: &'a [u8; 256],
-) -> bool
-    requires { (area ≤ 512) × ((n ≤ p) × (p < 256)) }
-    ensures { result ≡ changes_hold area blocks (record { count = n; taken = p; down = d; frames = frames.now; places = places.now }) }
-{
-    if !directory_holds(area, blocks, p, frames, places, n) {
-        return false;
-    }
-    list::all_stand(places, n, d, p)
-}
-
-// An empty directory is settled first: it need not be copied, and its places may be many. `current_listed` differs in
-// a name only: one function for both that took the generation by value would copy it twice.
-fn pending_listed(s: Store) -> bool
-    requires { (counts_hold s ≡ true) × (spans_hold s ≡ true) }
-    ensures { result ≡ changes_hold s.geometry.area s.geometry.blocks s.pending }
-{
-    if s.pending.count == 0 {
-        return s.pending.taken <= s.pending.down;
-    }
-    let g = s.pending;
-    changes_hold(
-        s.geometry.area,
-        s.geometry.blocks,
-        g.count,
-        g.taken,
-        g.down,
-        &g.frames,
-        &g.places,
-    )
-}
-
-fn current_listed(s: Store) -> bool
-    requires { (counts_hold s ≡ true) × (spans_hold s ≡ true) }
-    ensures { result ≡ changes_hold s.geometry.area s.geometry.blocks s.current }
-{
-    if s.current.count == 0 {
-        return s.current.taken <= s.current.down;
-    }
-    let g = s.current;
-    changes_hold(
-        s.geometry.area,
-        s.geometry.blocks,
-        g.count,
-        g.taken,
-        g.down,
-        &g.frames,
-        &g.places,
-    )
-}
-
-fn committed_listed(s: Store) -> bool
-    requires { (counts_hold s ≡ true) × (spans_hold s ≡ true) }
-    ensures { result ≡ directory_holds s.geometry.area s.geometry.blocks s.pages s.committed.frames s.committed.places s.committed.count }
-{
-    if s.committed.count == 0 {
-        return true;
-    }
-    let d = s.committed;
-    directory_holds(
-        s.geometry.area,
-        s.geometry.blocks,
-        s.pages,
-        &d.frames,
-        &d.places,
-        d.count,
-    )
+    let (area, blocks) = (s.geometry.area, s.geometry.blocks);
+    committed_listed(area, blocks, s.pages, &s.committed)
+        && changes_hold(area, blocks, &s.pending)
+        && changes_hold(area, blocks, &s.current)
 }
 
 // Question 2, of any record.
-pub fn holds_together(s: Store) -> bool
-    ensures { result ≡ holds_together s }
+#[tactic(auto, unfolding(record::specs::Holds::holds_together))]
+pub fn holds_together(s: &Store) -> bool
+    ensures { result ≡ holds_together s.now }
 {
-    if !counts_hold(s) {
-        return false;
-    }
-    if !spans_hold(s) {
-        return false;
-    }
-    if !committed_listed(s) {
-        return false;
-    }
-    if !pending_listed(s) {
-        return false;
-    }
-    current_listed(s)
+    counts_hold(s) && spans_hold(s) && listed(s)
 }

@@ -1,48 +1,74 @@
-// Where things stand: memory frames of the queue, and the first blocks of the stretches.
+// Where things stand: memory frames of the queue, and the rings of the generations.
 ghost use Rattle.std.specs.Prelude.{◌≡◌, true, ◌*◌, ◌≤◌, ◌<◌, length};
 ghost use Rattle.card.specs.Block.{put_block};
 ghost use Rattle.record.specs.Meaning.{seat_at, pending_first, current_first};
 ghost use Rattle.record.specs.Holds.{holds_together};
 
 use super::hold;
-use card_blocks::{block, ring};
+use card_blocks::block;
+use card_blocks::ring::Ring;
 use record::store::Store;
 
 // The memory frame i on from head.
-pub fn seat(frames: usize, head: usize, i: usize) -> usize
-    requires { (head < frames) × ((i ≤ frames) × (frames ≤ 64)) }
-    ensures { result ≡ seat_at frames head i }
+#[tactic(auto, unfolding(record::specs::Meaning::seat_at))]
+pub fn seat(s: &Store, i: usize) -> usize
+    requires head { s.now.head < s.now.frames }
+    requires inside { i ≤ s.now.frames }
+    requires few { s.now.frames ≤ 64 }
+    ensures { result ≡ seat_at s.now.frames s.now.head i }
 {
-    let n = head + i;
-    if n < frames {
-        return n;
-    }
-    n - frames
+    let n = s.head + i;
+    if n < s.frames { n } else { n - s.frames }
 }
 
 // A waiting frame's bytes, into the memory frame of its turn.
-pub fn put(frames: usize, head: usize, memory: &mut [u8], turn: usize, bytes: &[u8])
-    requires { (head < frames) × ((turn ≤ frames) × ((frames ≤ 64) × ((length memory.old ≡ 512 * frames) × (length bytes.now ≡ 512)))) }
-    ensures { memory.new ≡ put_block memory.old (seat_at frames head turn) bytes.now }
+pub fn put(s: &Store, memory: &mut [u8], turn: usize, bytes: &[u8; 512])
+    requires head { s.now.head < s.now.frames }
+    requires inside { turn ≤ s.now.frames }
+    requires few { s.now.frames ≤ 64 }
+    requires memory { length memory.old ≡ 512 * s.now.frames }
+    ensures { memory.new ≡ put_block memory.old (seat_at s.now.frames s.now.head turn) bytes.now }
 {
-    block::put(memory, seat(frames, head, turn), bytes);
+    block::put(memory, seat(s, turn), bytes);
 }
 
-// The first block of the pending generation.
-pub fn pending_first(s: Store) -> usize
-    requires { holds_together s ≡ true }
-    ensures { result ≡ pending_first s }
+// The ring from the committed generation's first block on.
+pub fn committed_ring(s: &Store) -> Ring
+    requires { holds_together s.now ≡ true }
+    ensures area { result.area ≡ s.now.geometry.area }
+    ensures first { result.first ≡ s.now.first }
+{
+    Ring {
+        area: s.geometry.area,
+        first: s.first,
+    }
+}
+
+// From the pending generation's.
+pub fn pending_ring(s: &Store) -> Ring
+    requires { holds_together s.now ≡ true }
+    ensures area { result.area ≡ s.now.geometry.area }
+    ensures first { result.first ≡ pending_first s.now }
 {
     let a = hold::size(s.pages, s.committed.count);
-    ring::at(s.geometry.area, s.first, a)
+    let first = committed_ring(s).at(a);
+    Ring {
+        area: s.geometry.area,
+        first,
+    }
 }
 
-// The first block of the current generation.
-pub fn current_first(s: Store) -> usize
-    requires { holds_together s ≡ true }
-    ensures { result ≡ current_first s }
+// From the current generation's.
+pub fn current_ring(s: &Store) -> Ring
+    requires { holds_together s.now ≡ true }
+    ensures area { result.area ≡ s.now.geometry.area }
+    ensures first { result.first ≡ current_first s.now }
 {
     let a = hold::size(s.pages, s.committed.count);
     let b = hold::size(s.pending.taken, s.pending.count);
-    ring::at(s.geometry.area, s.first, a + b)
+    let first = committed_ring(s).at(a + b);
+    Ring {
+        area: s.geometry.area,
+        first,
+    }
 }

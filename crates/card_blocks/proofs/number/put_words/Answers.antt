@@ -6,16 +6,12 @@ use Rattle.card_blocks.proofs.number.put_words.Goals as goal
 
 pub loop-k-init : goal.loop-k-init
 unfolding words
-loop-k-init c = record { in_range = omega arith; put = sym (patch_none _ _) }
+loop-k-init c = sym (patch_none _ _)
 
 pub loop-k-preserved : goal.loop-k-preserved
 loop-k-preserved c =
     let a = c.args in
     let l = c.loop-k in
     let n = a.numbers.now in
-    record {
-      in_range = omega arith;
-      put =
-          c.put_u32.ensures ∙ ap (λ (s : List ℕ). put_u32 s (a.at + 4 * l.k) (get_or n l.k 0)) l.invariant.put
-          ∙ words_more a.s.now a.at l.k n (omega arith) (omega arith);
-    }
+    c.put_u32.ensures ∙ ap (λ (s : List ℕ). put_u32 s (a.at + 4 * l.k) (get_or n l.k 0)) l.invariant
+    ∙ words_more a.s.now a.at l.k n (omega arith) (omega arith)

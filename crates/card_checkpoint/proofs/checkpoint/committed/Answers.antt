@@ -1,51 +1,75 @@
 -- `card_checkpoint::checkpoint::committed` meets its contract.
-use borrow.Author.Tests.{not-false}
-use mathlib.Core.Bool.{true, false}
-use mathlib.Core.Path.{ap, sym, ◌∙◌}
-use native.Mathlib.Omega.{arith}
-use Rattle.card.proofs.CheckpointLaws.{whole_tells, refusal_is, passed_area, passed_trailer, committed_is, refuse_7, directory_bounds, directory_is, last_asked}
-use Rattle.card.proofs.Test.{said_no, said_yes}
+use Rattle.std.proofs.Common.{true, false, Some, None, ◌≡◌, ap, sym, ◌∙◌, arith}
+use Rattle.std.proofs.lemmas.Result.{err_from_is_err_and}
+use Rattle.card.proofs.CheckpointLaws.{whole_tells, refusal_is, passed_area, passed_trailer, committed_is}
+use Rattle.card.proofs.CheckpointLaws.{refuse_7, directory_bounds, directory_is, last_asked}
 use Rattle.card.specs.Trailer.{trailer_on}
+use Rattle.card.specs.declared.refusal.Refusal.TheVariants as refusals
 use Rattle.card_checkpoint.proofs.checkpoint.committed.Goals as goal
 
 pub at-requires : goal.at-requires
-at-requires c = omega (arith, passed_trailer c.requires.0 c.requires.1)
+at-requires c = omega (arith, passed_trailer c.requires.passed c.requires.some)
 
 pub fits-requires : goal.fits-requires
-fits-requires c = (passed_area c.requires.0).0
+fits-requires c = (passed_area c.requires.passed).0
 
 pub returns-then-not-fits : goal.returns-then-not-fits
 returns-then-not-fits c =
-    let trailer = c.read-t.ensures ∙ ap trailer_on c.at.ensures.0 in
+    let trailer = c.read-trailer.ensures ∙ ap trailer_on c.at.ensures in
     let no = sym c.fits.ensures ∙ c.if-not-fits.true in
-    refusal_is 7 (omega arith) c.refused.ensures (refuse_7 c.requires.0 c.requires.1 trailer no)
+    refusal_is refusals.Trailer (refuse_7 c.requires.passed c.requires.some trailer no)
 
-pub read-r-requires : goal.read-r-requires
-read-r-requires c =
-    let area = passed_area c.requires.0 in
-    let blocks = whole_tells 11 65536 _ c.requires.0.card_whole in
-    let trailer = c.read-t.ensures ∙ ap trailer_on c.at.ensures.0 in
+pub invariant_of-ring : goal.invariant_of-ring
+invariant_of-ring c =
+    let passed = c.requires.passed in
+    let trailer = c.read-trailer.ensures ∙ ap trailer_on c.at.ensures in
     let yes = sym c.fits.ensures ∙ c.if-not-fits.false in
-    (area.1, (blocks.1.1, (area.0, directory_bounds c.requires.0 c.requires.1 trailer yes)))
+    record {
+      area_high = (passed_area passed).0;
+      first_inside = (directory_bounds passed c.requires.some trailer yes).0;
+    }
 
-pub returns-then-not-r : goal.returns-then-not-r
-returns-then-not-r c =
-    let trailer = c.read-t.ensures ∙ ap trailer_on c.at.ensures.0 in
+pub read-found-requires : goal.read-found-requires
+read-found-requires c =
+    let passed = c.requires.passed in
+    let blocks = whole_tells 11 65536 _ passed.card_whole in
+    let trailer = c.read-trailer.ensures ∙ ap trailer_on c.at.ensures in
     let yes = sym c.fits.ensures ∙ c.if-not-fits.false in
-    let no = said_no c.read-r.ensures.0 c.if-not-r.true in
-    refusal_is 8 (omega arith) c.refused-then-not-r.ensures (last_asked c.requires.0 c.requires.1 trailer false yes no)
+    let bounds = directory_bounds passed c.requires.some trailer yes in
+    record {
+      card = (passed_area passed).1;
+      blocks = blocks.1.1;
+      inside = bounds.1.0;
+      entries = bounds.1.1.0;
+      pages = bounds.1.1.1;
+    }
+
+pub returns-in_err-directory : goal.returns-in_err-directory
+returns-in_err-directory c =
+    let trailer = c.read-trailer.ensures ∙ ap trailer_on c.at.ensures in
+    let yes = sym c.fits.ensures ∙ c.if-not-fits.false in
+    let none : c.read-found.result ≡ None = grind arith in
+    let refusal : c.in_err-directory.field-0.0 ≡ refusals.Directory = grind arith in
+    let no = sym (rw none at c.read-found.ensures.fits) in
+    let p = err_from_is_err_and c.from_residual.result c.from_residual.ensures.1 in
+    rw (p.1, p.2, refusal)
+    (refusal_is refusals.Directory (last_asked c.requires.passed c.requires.some trailer false yes no))
 
 pub returns : goal.returns
 returns c =
-    let passed = c.requires.0 in
-    let some = c.requires.1 in
-    let trailer = c.read-t.ensures ∙ ap trailer_on c.at.ensures.0 in
+    let passed = c.requires.passed in
+    let some = c.requires.some in
+    let trailer = c.read-trailer.ensures ∙ ap trailer_on c.at.ensures in
     let yes = sym c.fits.ensures ∙ c.if-not-fits.false in
-    let directory = c.read-r.ensures.1 (not-false _ c.if-not-r.false) in
+    let directory = c.in_ok-directory.directory in
+    let e : c.read-found.result ≡ Some directory = grind arith in
+    let count = rw e at c.read-found.ensures.count in
     record {
-      number = sym (last_asked passed some trailer true yes (said_yes c.read-r.ensures.0 c.if-not-r.false));
-      header_is = λ z. passed.header_is;
-      trailer_is = λ z. sym (committed_is passed some trailer);
-      entries_is = λ z. directory_is passed some trailer c.read-r.result.directory directory.0 directory.1.0;
-      places_are = λ z. rw directory.0 directory.1.1;
+      number = sym (last_asked passed some trailer true yes (sym (rw e at c.read-found.ensures.fits)));
+      read = record {
+        header_is = passed.header_is;
+        trailer_is = sym (committed_is passed some trailer);
+        entries_is = directory_is passed some trailer directory count (rw e at c.read-found.ensures.entries);
+        places_are = rw count (rw e at c.read-found.ensures.places);
+      };
     }

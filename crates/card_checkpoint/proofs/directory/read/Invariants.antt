@@ -1,8 +1,6 @@
 -- `card_checkpoint::directory::read` meets its contract. The loop has read the first i entries, and leaves those
 -- from the i-th on to be asked about.
-use Prim.Native.Nat.{◌-◌, ◌≤◌}
-use lib.ListN.{length}
-use mathlib.Core.Path.{◌≡◌}
+use Rattle.std.proofs.Common.{◌-◌, ◌≡◌, length}
 use Rattle.card.proofs.BytesLaws.{Filled}
 use Rattle.card.proofs.DirectoryLaws.{PlacesFilled}
 use Rattle.card.specs.Bytes.{tabulate}
@@ -12,17 +10,14 @@ use Rattle.card_checkpoint.proofs.directory.read.Given as goal
 
 abbrev pub invariant-loop-i : goal.invariant-loop-i
 invariant-loop-i l =
-    let f = entry_on l.card l.area l.first l.p in
-    let left = tabulate f l.i (l.e - l.i) in
+    let area = l.ring.area in
+    let first = l.ring.first in
+    let f = entry_on l.card area first l.p in
     record {
-      in_range : l.i ≤ l.e;
-      rest : entries_fit l.blocks l.area l.first l.p l.low left
-          ≡ entries_fit l.blocks l.area l.first l.p l.area (read_dir l.card l.area l.first l.p l.e);
-      frames_long : length l.d.frames ≡ 256;
-      frames : Filled (λ i. (f i).frame) l.i l.d.frames;
-      places_long : length l.d.places ≡ 256;
-      places : PlacesFilled l.area l.first l.p f l.i l.d.places;
+      rest : entries_fit l.blocks area first l.p l.low (tabulate f l.i (l.e - l.i))
+          ≡ entries_fit l.blocks area first l.p area (read_dir l.card area first l.p l.e);
+      frames_long : length l.directory.frames ≡ 256;
+      frames : Filled (λ i. (f i).frame) l.i l.directory.frames;
+      places_long : length l.directory.places ≡ 256;
+      places : PlacesFilled area first l.p f l.i l.directory.places;
     }
-
-abbrev pub decreases-loop-i : goal.decreases-loop-i
-decreases-loop-i l = l.e - l.i

@@ -9,4 +9,4 @@ pub returns : goal.returns
 unfolding put_flags
 returns c =
     let a = c.args in
-    rw c.entry_at-at.ensures (store1 a.pot.now (entry_at a.i + 4) a.flags (omega (arith, c.requires)))
+    rw c.entry_at.ensures (store1 a.pot.now (entry_at a.i + 4) a.flags (omega (arith, c.requires)))

@@ -1,55 +1,41 @@
--- `card_places::range::find` meets its contract. The loop leaves the ranges from the i-th on to be searched.
-use Prim.Native.Nat.{ℕ, ◌+◌, ◌-◌}
-use mathlib.Core.List.{List}
+-- `card_places::range::find` meets its contract. The loop leaves the ranges of the iterator's rest to be searched.
+use borrow.Author.Rules.{rules}
+use lib.ListN.{length, length-append}
 use mathlib.Core.Path.{ap, sym, ◌∙◌}
 use native.Mathlib.Omega.{arith}
-use Rattle.card.proofs.BytesLaws.{tab_start, tab_end}
-use Rattle.card.proofs.RangeLaws.{range_next, locate_here, locate_later, locate_none}
-use Rattle.card.specs.Range.{Range, range_in, ranges_of, address_in, missing, locate_or, locate}
-use Rattle.card.specs.declared.range.Lookup.TheVariants.{Located}
+use Rattle.card.proofs.RangeLaws.{pair_next, pair_end, locate_here, locate_later, locate_none}
+use Rattle.card.specs.Range.{place_or, Located, locate}
+use Rattle.card.specs.declared.range.Address.{Address}
 use Rattle.card_places.proofs.range.find.Goals as goal
 
-pub loop-i-init : goal.loop-i-init
-unfolding ranges_of locate
-loop-i-init c =
-    let a = c.args in
-    let none = missing (ranges_of a.numbers.now a.count) a.oid in
-    let start = tab_start (range_in a.numbers.now) a.count in
-    record {
-      in_range = omega arith;
-      near = omega arith;
-      rest = ap (λ (l : List Range). locate_or none l (1 + a.area) a.oid) start;
-    }
+pub loop-pair-init : goal.loop-pair-init
+unfolding locate
+loop-pair-init c = search rules
 
 pub returns-then-holds : goal.returns-then-holds
 returns-then-holds c =
-    let a = c.args in
-    let l = c.loop-i in
-    let first = c.wide-first in
-    let sought = c.wide-sought.ensures.0 in
-    let next = range_next a.numbers.now l.i a.count _ _ (omega arith) first.ensures.0 c.wide-pages.ensures.0 in
-    let yes = rw sought at (sym c.holds.ensures ∙ c.if-holds.true) in
-    ap Located (c.address_in.ensures ∙ ap (λ (n : ℕ). address_in l.start (n - first.result)) sought)
-    ∙ sym (locate_here _ l.start a.oid _ _ _ next yes)
-    ∙ l.invariant.rest
+    let l = c.loop-pair in
+    let pair = c.in-Some.ensures.steps.1 in
+    let next = pair_next _ _ _ pair.0 (pair.1 ∙ l.invariant.pairs) in
+    let yes = sym c.holds.ensures ∙ c.if-holds.true in
+    ap (λ (p : Address). place_or (Located p)) c.address_in.ensures
+    ∙ ap place_or (sym (locate_here _ l.start c.args.oid _ _ _ next yes) ∙ l.invariant.rest)
 
-pub loop-i-preserved : goal.loop-i-preserved
-loop-i-preserved c =
-    let a = c.args in
-    let l = c.loop-i in
-    let next = range_next a.numbers.now l.i a.count _ _ (omega arith) c.wide-first.ensures.0 c.wide-pages.ensures.0 in
-    let no = rw c.wide-sought.ensures.0 at (sym c.holds.ensures ∙ c.if-holds.false) in
+pub loop-pair-preserved : goal.loop-pair-preserved
+loop-pair-preserved c =
+    let l = c.loop-pair in
+    let step = c.in-Some.ensures.steps in
+    let next = pair_next _ _ _ step.1.0 (step.1.1 ∙ l.invariant.pairs) in
+    let left = simp length-append at (ap length step.1.0) in
+    let no = sym c.holds.ensures ∙ c.if-holds.false in
     record {
-      in_range = omega arith;
-      near = omega (arith, c.blocks-start.ensures);
-      rest = rw c.blocks-start.ensures (sym (locate_later _ l.start a.oid _ _ _ next no)) ∙ l.invariant.rest;
+      pairs = step.0 ∙ l.invariant.pairs;
+      near = omega (arith, c.blocks-start.ensures, left, step.1.1, l.invariant.pairs);
+      rest = rw c.blocks-start.ensures (sym (locate_later _ l.start c.args.oid _ _ _ next no)) ∙ l.invariant.rest;
     }
 
 pub returns : goal.returns
 returns c =
-    let a = c.args in
-    let l = c.loop-i in
-    let end = tab_end (range_in a.numbers.now) l.i a.count (omega arith) in
-    c.missing.ensures ∙ ap (missing (ranges_of a.numbers.now a.count)) c.wide-sought.ensures.0
-    ∙ sym (locate_none _ l.start a.oid _ end)
-    ∙ l.invariant.rest
+    let l = c.loop-pair in
+    let end = pair_end _ (omega (arith, c.in-None.ensures.steps.1.0, l.invariant.pairs)) in
+    c.missing.ensures ∙ ap place_or (sym (locate_none _ l.start c.args.oid _ end) ∙ l.invariant.rest)

@@ -1,39 +1,18 @@
--- `card_places::range::some_below` meets its contract. The loop leaves the ranges from the i-th on to be searched.
-use mathlib.Core.List.{List}
-use mathlib.Core.Path.{ap, sym, ◌∙◌}
-use native.Mathlib.Omega.{arith}
-use Rattle.card.proofs.BytesLaws.{tab_start, tab_end}
-use Rattle.card.proofs.RangeLaws.{range_next, below_here, below_later, below_none}
-use Rattle.card.specs.Range.{Range, range_in, ranges_of, some_below}
+-- `card_places::range::some_below` meets its contract.
+use Prim.Native.Nat.{◌+◌, ◌≤◌, ◌<◌}
+use borrow.Author.Rules.{rules}
+use borrow.Author.Tests.{tests}
+use lib.ListN.{get_or}
+use mathlib.Core.Path.{refl}
+use Rattle.card.proofs.RangeLaws.{below_here, below_later, below_none}
+use Rattle.card.specs.Range.{some_below}
+use Rattle.card.proofs.PairLaws.{any_pair}
 use Rattle.card_places.proofs.range.some_below.Goals as goal
-
-pub loop-i-init : goal.loop-i-init
-unfolding ranges_of
-loop-i-init c =
-    let a = c.args in
-    let start = tab_start (range_in a.numbers.now) a.count in
-    record { in_range = omega arith; rest = ap (λ (l : List Range). some_below l a.oid) start }
-
-pub returns-then-first-pages : goal.returns-then-first-pages
-returns-then-first-pages c =
-    let a = c.args in
-    let l = c.loop-i in
-    let next = range_next a.numbers.now l.i a.count _ _ (omega arith) c.wide-first.ensures.0 c.wide-pages.ensures.0 in
-    sym (below_here a.oid _ _ _ next c.if-first-pages.true) ∙ l.invariant.rest
-
-pub loop-i-preserved : goal.loop-i-preserved
-loop-i-preserved c =
-    let a = c.args in
-    let l = c.loop-i in
-    let next = range_next a.numbers.now l.i a.count _ _ (omega arith) c.wide-first.ensures.0 c.wide-pages.ensures.0 in
-    record {
-      in_range = omega arith;
-      rest = sym (below_later a.oid _ _ _ next c.if-first-pages.false) ∙ l.invariant.rest;
-    }
 
 pub returns : goal.returns
 returns c =
-    let a = c.args in
-    let l = c.loop-i in
-    let end = tab_end (range_in a.numbers.now) l.i a.count (omega arith) in
-    sym (below_none a.oid _ end) ∙ l.invariant.rest
+    let oid = c.args.oid in
+    any_pair _ _ (λ l. some_below l oid) _ _ _ c.any.ensures.ran c.chunks_exact.ensures.size c.chunks_exact.ensures.rest
+    (below_none oid _ refl)
+    (λ x q k rs. let low : get_or x.now 0 0 + get_or x.now 1 0 ≤ oid = search (rules, tests) in below_here oid _ rs _ refl low)
+    (λ x q k. (search rules, λ rs. let high : oid < get_or x.now 0 0 + get_or x.now 1 0 = search (rules, tests) in below_later oid _ rs _ refl high))

@@ -4,4 +4,8 @@ use Rattle.record.proofs.NoneLaws.{emptied, emptied_none}
 use Rattle.frames_change.proofs.snapshot.mark.Goals as goal
 
 pub returns : goal.returns
-returns c = mark_done c.args.s (emptied c.args.s.current) (emptied_none c.args.s.current) c.requires
+returns c =
+    let s = c.args.s.now in
+    let r = c.requires in
+    mark_done s (emptied s.current) (emptied_none s.current)
+    (r.together, (r.none_pending, (r.changed, r.commit_low)))

@@ -6,4 +6,4 @@ use Rattle.frames_checkpoint.proofs.kind.flush_all.Goals as goal
 pub returns : goal.returns
 returns c =
     let r = c.requires in
-    flush_step c.args.s (held c.args.s r.0) r.1.0 r.1.1.0 r.1.1.1.0 r.1.1.1.1
+    flush_step c.args.s.now (held c.args.s.now r.together) r.writing r.pending r.tail_down r.all_home

@@ -4,4 +4,4 @@ use Rattle.record.proofs.Held.{held}
 use Rattle.frames_checkpoint.proofs.kind.flush_owed.Goals as goal
 
 pub returns : goal.returns
-returns c = owed_step c.args.s (held c.args.s c.requires.0) c.requires.1
+returns c = owed_step c.args.s.now (held c.args.s.now c.requires.together) c.requires.owed

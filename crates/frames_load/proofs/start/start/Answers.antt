@@ -1,20 +1,14 @@
 -- `frames_load::start::start` meets its contract.
-use mathlib.Core.Path.{sym, ◌∙◌}
-use Rattle.frames.proofs.CallLaws.{start_1, start_refused, start_done}
+use Rattle.std.proofs.Common.{◌≢◌, arith}
+use Rattle.card.proofs.RefusalLaws.{number_some}
+use Rattle.card.specs.Refusal.{number}
+use Rattle.frames.proofs.CallLaws.{start_refused, start_done}
 use Rattle.frames_load.proofs.start.start.Goals as goal
 
-pub returns-then-not-is_whole : goal.returns-then-not-is_whole
-returns-then-not-is_whole c =
-    let e = c.refused.ensures in
-    rw (e.0, e.1) (start_1 _ _ (sym c.is_whole.ensures ∙ c.if-not-is_whole.true))
+pub returns-in-Ok : goal.returns-in-Ok
+returns-in-Ok c = start_done _ _ _ c.in-Ok.ensures.told c.in-Ok.ensures.started
 
-pub returns-then-c-ne0 : goal.returns-then-c-ne0
-returns-then-c-ne0 c =
-    let e = c.refused-then-c-ne0.ensures in
-    let whole = sym c.is_whole.ensures ∙ c.if-not-is_whole.false in
-    rw (e.0, e.1) (start_refused _ _ whole _ c.read-c.ensures.number c.if-c-ne0.true)
-
-pub returns : goal.returns
-returns c =
-    let whole = sym c.is_whole.ensures ∙ c.if-not-is_whole.false in
-    start_done _ _ whole _ (sym c.read-c.ensures.number ∙ c.if-c-ne0.false) c.recovered-t.ensures
+pub returns-in-Err : goal.returns-in-Err
+returns-in-Err c =
+    let some : number c.in-Err.no ≢ 0 = omega (arith, number_some c.in-Err.no) in
+    rw c.zeros.ensures (start_refused _ _ _ c.in-Err.ensures.told some)

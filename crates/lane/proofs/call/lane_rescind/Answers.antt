@@ -3,4 +3,4 @@ use Rattle.linked.proofs.NumberLaws.{linked_rescind}
 use Rattle.lane.proofs.call.lane_rescind.Goals as goal
 
 pub returns : goal.returns
-returns c = linked_rescind _ _ _ _ _ c.rescind-d.ensures
+returns c = rw c.of.ensures (linked_rescind _ _ _ _ _ c.rescind-d.ensures)

@@ -3,4 +3,4 @@ use Rattle.linked.proofs.NumberLaws.{linked_snapshot}
 use Rattle.lane.proofs.call.lane_snapshot.Goals as goal
 
 pub returns : goal.returns
-returns c = linked_snapshot _ _ _ c.snapshot-d.ensures
+returns c = rw c.of.ensures (linked_snapshot _ _ _ c.snapshot-d.ensures)

@@ -3,4 +3,4 @@ use Rattle.linked.proofs.NumberLaws.{linked_start}
 use Rattle.lane.proofs.call.lane_start.Goals as goal
 
 pub returns : goal.returns
-returns c = linked_start _ _ _ _ c.start-d.ensures
+returns c = rw c.of.ensures (linked_start _ _ _ _ c.start-d.ensures)

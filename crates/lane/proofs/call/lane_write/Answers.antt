@@ -3,4 +3,4 @@ use Rattle.linked.proofs.NumberLaws.{linked_write}
 use Rattle.lane.proofs.call.lane_write.Goals as goal
 
 pub returns : goal.returns
-returns c = linked_write _ _ _ _ _ _ _ c.write-d.ensures
+returns c = rw c.of.ensures (linked_write _ _ _ _ _ _ _ c.write-d.ensures)

@@ -1,37 +1,16 @@
 -- `pages_read::key::key` meets its contract.
-use mathlib.Core.Path.{◌≡◌, sym, ◌∙◌}
-use Rattle.card.specs.Question.{first_no}
-use Rattle.frames.specs.Promise.{lent, common}
+use Rattle.std.proofs.lemmas.Result.{err_from_is_err_and}
 use Rattle.pages.proofs.CallLaws.{key_refused, key_done}
-use Rattle.pages.proofs.NamedLaws.{searchable, Found, pot_readable, common_stops, place_stops}
+use Rattle.pages.proofs.NamedLaws.{found_by, named_stops}
 use Rattle.pages_read.proofs.key.key.Goals as goal
-use Rattle.pages_read.proofs.key.key.Goals.{Else-n-ne0, Else-no-ne0}
 
--- questions 1 to 3 are passed
-passed : (c : Else-no-ne0) → first_no (common (lent c.args.s c.args.memory.now c.args.card.now)) ≡ 0
-passed c = sym c.common-no.ensures ∙ c.if-no-ne0.false
-
--- and 21 and 9
-found : (c : Else-n-ne0) → Found (lent c.args.s c.args.memory.now c.args.card.now) c.args.oid c.find-n.result.address
-found c =
-    record {
-      passed = sym c.common-no.ensures ∙ c.if-no-ne0.false;
-      place_is = c.find-n.ensures.place_is c.if-n-ne0.false;
-    }
-
-pub returns-then-no-ne0 : goal.returns-then-no-ne0
-returns-then-no-ne0 c = key_refused _ _ (common_stops _ _ _ c.common-no.ensures c.if-no-ne0.true)
-
-pub find-n-requires : goal.find-n-requires
-find-n-requires c = searchable _ (passed (goal.at.find-n-requires c).Else-no-ne0)
-
-pub returns-then-n-ne0 : goal.returns-then-n-ne0
-returns-then-n-ne0 c =
-    key_refused _ _ (place_stops _ _ _ (passed (goal.at.returns-then-n-ne0 c).Else-no-ne0) c.find-n.ensures
-    c.if-n-ne0.true)
-
-pub load-pot-requires : goal.load-pot-requires
-load-pot-requires c = pot_readable _ _ _ (found (goal.at.load-pot-requires c).Else-n-ne0)
+pub returns-in_err-place : goal.returns-in_err-place
+returns-in_err-place c =
+    let p = err_from_is_err_and c.from_residual.result c.from_residual.ensures.1 in
+    let refusal = c.in_err-place.field-0.0 in
+    rw (p.1, p.2) (key_refused _ _ refusal (named_stops _ _ _ refusal c.in_err-place.ensures.told))
 
 pub returns : goal.returns
-returns c = key_done _ _ _ (found (goal.at.returns c).Else-n-ne0) c.load-pot.ensures.0 c.count_at.ensures
+returns c =
+    let found = c.in_ok-place.ensures.found in
+    key_done _ _ _ (found_by found) found.pot_is c.count_at.ensures

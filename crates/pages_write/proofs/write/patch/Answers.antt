@@ -1,5 +1,5 @@
 -- `pages_write::write::patch` meets its contract.
-use native.Mathlib.Omega.{arith}
+use Rattle.std.proofs.Common.{arith}
 use Rattle.card.proofs.BytesLaws.{lent-part}
 use Rattle.pages_write.proofs.write.patch.Goals as goal
 

@@ -1,30 +1,33 @@
 -- `record_list::list::all_rise` meets its contract: of elements that rise the first and the last tell the bounds.
-use lib.ListN.{get_or}
-use mathlib.Core.Path.{sym, ◌∙◌}
-use native.Mathlib.Omega.{arith}
-use Rattle.record.proofs.ListLaws.{cells_none}
-use Rattle.record.proofs.Tests.{first_low, last_high, rising_is}
-use Rattle.record.specs.Lists.{all_rising}
+use Rattle.std.proofs.Common.{◌≡◌, ◌<◌, ◌∙◌, arith, sym, ltb-true, ltb-false, leb-true, length}
+use Rattle.record.proofs.ListLaws.{rise_none, rise_low, rise_high, rise_steps}
 use Rattle.record_list.proofs.list.all_rise.Goals as goal
-use Rattle.record_list.proofs.list.all_rise.Goals.{Else-from_short-low, Else-high-from_short}
+use Rattle.record_list.proofs.list.all_rise.Goals.{then-low-first, else-low-first}
 
-pub returns-then-n-eq0 : goal.returns-then-n-eq0
-unfolding all_rising
-returns-then-n-eq0 c = rw (c.if-n-eq0.true, cells_none c.args.l.now)
-
-pub returns-then-from_short-low : goal.returns-then-from_short-low
-returns-then-from_short-low c =
+pub returns-then-is_empty : goal.returns-then-is_empty
+returns-then-is_empty c =
     let a = c.args in
-    sym (first_low a.high (λ k. get_or a.l.now k 0) a.low a.n (omega arith) (omega (arith, c.from_short.ensures.0)))
+    let none : length a.frames.now ≡ 0 = grind arith in
+    sym (rise_none a.low a.high a.frames.now none)
 
-pub returns-then-high-from_short : goal.returns-then-high-from_short
-returns-then-high-from_short c =
+pub returns-then-within : goal.returns-then-within
+returns-then-within c =
     let a = c.args in
-    sym (last_high a.high (λ k. get_or a.l.now k 0) a.low a.n (omega arith) (omega (arith, c.from_short-2.ensures.0)))
+    let some : 0 < length a.frames.now = grind arith in
+    elim c.if-low-first.branch [
+      | then-low-first w ↦
+          let last = ltb-true _ _ (sym w.within-is ∙ c.if-within.true) in
+          c.all_above.ensures ∙ rise_steps a.low a.high a.frames.now some (omega arith) (omega (arith, last))
+      | else-low-first w ↦ absurd (omega (arith, leb-true _ _ (sym w.within-is ∙ c.if-within.true)))
+    ]
 
-pub returns : goal.returns
-returns c =
+pub returns-else-within : goal.returns-else-within
+returns-else-within c =
     let a = c.args in
-    c.rising.ensures
-    ∙ rising_is a.high (λ k. get_or a.l.now k 0) a.low a.n (omega arith) (omega (arith, c.from_short.ensures.0))
-    (omega (arith, c.from_short-2.ensures.0))
+    let some : 0 < length a.frames.now = grind arith in
+    elim c.if-low-first.branch [
+      | then-low-first w ↦
+          let last = ltb-false _ _ (sym w.within-is ∙ c.if-within.false) in
+          c.if-within.false ∙ sym (rise_high a.low a.high a.frames.now some (omega (arith, last)))
+      | else-low-first w ↦ c.if-within.false ∙ sym (rise_low a.low a.high a.frames.now some (omega arith))
+    ]

@@ -1,24 +1,25 @@
 -- `record_list::list::tally` meets its contract. The loop's invariant: what is counted, and what the rest adds, is all.
-use native.Mathlib.Omega.{arith}
+use Rattle.std.proofs.Common.{arith}
 use Rattle.record.proofs.ListLaws.{tallied_none, tallied_room, tallied_more, tallied_all}
 use Rattle.record_list.proofs.list.tally.Goals as goal
 
-pub loop-i-init : goal.loop-i-init
-loop-i-init c = rw c.zeros-count.ensures (tallied_none c.args.l.now c.args.n)
+pub loop-x-init : goal.loop-x-init
+loop-x-init c = tallied_none c.args.places.now
 
 pub overflow_add-count : goal.overflow_add-count
 overflow_add-count c =
-    let l = c.loop-i in
-    let room = tallied_room c.args.l.now l.count l.i c.args.n l.invariant (omega arith) in
-    rw c.from_byte-x.ensures.0 (omega (arith, room))
+    let l = c.loop-x in
+    let room = tallied_room c.args.places.now l.count l.x-index l.invariant c.loop-x-test.true in
+    rw c.from.ensures (omega (arith, room))
 
-pub loop-i-preserved : goal.loop-i-preserved
-loop-i-preserved c =
-    let l = c.loop-i in
-    let x = c.from_byte-x.ensures in
-    rw x.0 (tallied_more c.args.l.now l.count l.i c.args.n l.invariant (omega arith) (omega (arith, x)))
+pub loop-x-preserved : goal.loop-x-preserved
+loop-x-preserved c =
+    let l = c.loop-x in
+    rw c.from.ensures
+    (tallied_more c.args.places.now l.count l.x-index l.invariant c.loop-x-test.true
+    (omega (arith, c.type_inv.places l.x-index)))
 
 pub returns : goal.returns
 returns c =
-    let l = c.loop-i in
-    tallied_all c.args.l.now l.count l.i c.args.n l.invariant (omega arith)
+    let l = c.loop-x in
+    tallied_all c.args.places.now l.count l.x-index l.invariant c.loop-x-test.false
