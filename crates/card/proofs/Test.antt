@@ -1,6 +1,7 @@
 -- Tests that a definition makes, and what they tell.
 -- Assumes nothing.
 
+use native.Mathlib.Numerals.{add-one}
 use Prim.Native.Nat.{ℕ, zero, suc, ◌+◌, ◌-◌, ◌≤◌, ◌<◌, zero-le, suc-le-suc}
 use borrow.Author.Tests.{eqb-true}
 use lib.Dec.{eqb}
@@ -78,13 +79,28 @@ unfolding each
 each_all t i zero h = refl
 each_all t i (suc n) h = joined (t i) _ (h i (omega arith) (omega arith)) (each_all t (suc i) n (λ k a b. h k (omega arith) (omega arith)))
 
--- a loop that asks on after a "no": a "no", and its end, where `all` is the answer so far
+-- two tests at once
+pub each_both : (s t : ℕ → Bool) (i n : ℕ) → each (λ k. s k && t k) i n ≡ each s i n && each t i n
+unfolding each
+each_both s t i zero = refl
+each_both s t i (suc n) = rw (each_both s t (suc i) n) (and_swap (s i) (t i) (each s (suc i) n) (each t (suc i) n))
+
+-- a loop that asks on after a "no": its start, its turns and its end, where `all` is the answer so far
+pub each_start : (t : ℕ → Bool) (n : ℕ) → each t 0 (n - 0) ≡ each t 0 n
+each_start t n = let e : n - 0 ≡ n = omega arith in rw e
+
 module _ (t : ℕ → Bool) (i n : ℕ) (all : Bool) {whole : Bool} (inv : all && each t i (n - i) ≡ whole) where
   pub each_no : {next : Bool} → i < n → t i ≡ false → next ≡ false → next && each t (i + 1) (n - (i + 1)) ≡ whole
   unfolding each
   each_no h q e =
       let m : n - i ≡ suc (n - suc i) = omega arith in
       rw e (sym (and-false all) ∙ (rw (m, each, q) at inv))
+
+  pub each_yes : {next : Bool} → i < n → t i ≡ true → next ≡ all → next && each t (i + 1) (n - (i + 1)) ≡ whole
+  unfolding each
+  each_yes h q e =
+      let m : n - i ≡ suc (n - suc i) = omega arith in
+      rw (e, add-one) (rw (m, each, q) at inv)
 
   pub each_end : n ≤ i → all ≡ whole
   unfolding each

@@ -64,14 +64,14 @@ fn commit_fits(commit: u32, trailer: usize, area: usize) -> bool
 }
 
 // Questions 4 to 6, of the header of a card of so many blocks.
-#[tactic(auto, using(card::proofs::RangeLaws::geometry_many, card::proofs::RangeLaws::ranges_of_front), unfolding(card::specs::Question::first_no, card::specs::Question::header_asks))]
+#[tactic(auto, unfolding(card::specs::Question::first_no, card::specs::Question::header_asks))]
 pub fn question(h: &Header, blocks: usize) -> Result<(), Refusal>
     ensures { told result ≡ first_no (header_asks blocks h.now) }
 {
     if h.layout != 1 {
         return Err(Refusal::Layout);
     }
-    if 8 < h.count || !range::fits(blocks, h.area, &h.ranges[..2 * h.count]) {
+    if !range::fits(blocks, h.area, &h.ranges, h.count) {
         return Err(Refusal::Geometry);
     }
     if !commit_fits(h.commit, h.trailer, h.area) {

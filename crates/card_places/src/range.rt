@@ -43,11 +43,19 @@ fn fill(ranges: &[u32], start: usize, card: usize) -> bool
 }
 
 // Question 5: do the area and the ranges keep the limits and fill a card of so many blocks?
-pub fn fits(card: usize, area: usize, ranges: &[u32]) -> bool
+pub fn all_fit(card: usize, area: usize, ranges: &[u32]) -> bool
     ensures { result ≡ geometry_fits card area (ranges_of ranges.now (length ranges.now / 2)) }
 {
     let count = ranges.len() / 2;
     (8..=512).contains(&area) && (1..=8).contains(&count) && fill(ranges, 1 + area, card)
+}
+
+// Question 5, of a header or a record, whose count may be any number: more than 8 ranges are refused.
+#[tactic(auto, using(card::proofs::RangeLaws::geometry_many, card::proofs::RangeLaws::ranges_of_front))]
+pub fn fits(card: usize, area: usize, numbers: &[u32; 16], count: usize) -> bool
+    ensures { result ≡ geometry_fits card area (ranges_of numbers.now count) }
+{
+    count <= 8 && all_fit(card, area, &numbers[..2 * count])
 }
 
 // Does a range hold an OID?

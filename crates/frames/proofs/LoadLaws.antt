@@ -19,9 +19,10 @@ use Rattle.card.specs.Block.{block_at}
 use Rattle.card.specs.Bytes.{All}
 use Rattle.card.specs.Directory.{entry_in, entries_of}
 use Rattle.card.specs.Ring.{ring_at}
+use Rattle.card.specs.declared.directory.Directory.{Directory}
 use Rattle.card.specs.declared.directory.Entry.{Entry}
 use Rattle.frames.proofs.ReadyLaws.{Ready, firsts}
-use Rattle.frames.specs.Parts.{Located, placed_at, committed_bytes}
+use Rattle.frames.specs.Parts.{Located, CommittedParts, PartsHeld, CommittedBlock, placed_at, committed_bytes}
 use Rattle.frames.specs.declared.answer.Place.{Place}
 use Rattle.frames.specs.declared.answer.Place.TheVariants.{Memory, Card}
 use Rattle.record.proofs.Held.{Filed, Listed, Held, held, bounds}
@@ -134,6 +135,30 @@ module _ (s : Store) {f i : ℕ} (found : First s.committed.frames s.committed.c
       at_card s (committed_bytes s f) n (omega (arith, inside.0, (bounds s h).area_inside)) (λ card memory. ap (block_at card) q ∙ sym (overlay-lookup card (committed_of s).entries (block_at card) f ∙ ap (shown card (block_at card f))
       (first_found (λ j xs. lookup f xs ≡ suc b) (entry_in s.geometry.area s.first s.committed.frames s.committed.places) s.committed.frames s.committed.count f i found (over-entry (suc b)) c
       (λ xs. rw (← found.is c) (lookup_hit (entry_in s.geometry.area s.first s.committed.frames s.committed.places i) xs)))))
+
+-- by the parts of the record
+module _ {area first : ℕ} {d : Directory} where
+  pub parts_small : PartsHeld area first d → d.count ≤ 256
+  parts_small k = omega (arith, ap (λ (x : Directory). x.count) k.parts.directory_is, (bounds k.store (held k.store k.together)).committed_small)
+
+  pub parts_filed : (k : PartsHeld area first d) → Filed k.store.geometry.area k.store.geometry.blocks k.store.pages d.frames d.places d.count
+  parts_filed k = rw k.parts.directory_is (held k.store k.together).committed
+
+  module _ {f i : ℕ} (found : First d.frames d.count f i) where
+    found_in : (s : Store) → CommittedParts s area first d → First s.committed.frames s.committed.count f i
+    found_in s p = rw (← p.directory_is) found
+
+    pub parts_home : (n : ℕ) → i ≡ d.count → n ≡ f → CommittedBlock area first d f n
+    parts_home n e q = λ s p h l. at_home s (found_in s p) n (rw (← p.directory_is) e) q l
+
+    pub parts_fit : PartsHeld area first d → i ≢ d.count → {place : ℕ} → place ≡ get_or d.places i 0 → place ≤ area
+    parts_fit k n e =
+        let p = k.parts in
+        let fits = committed_fits k.store (found_in k.store p) (held k.store k.together) (rw (← p.directory_is) n) (e ∙ ap (λ (x : Directory). get_or x.places i 0) p.directory_is) in
+        omega (arith, p.area_is, fits.1.1)
+
+    pub parts_entry : (n : ℕ) → i ≢ d.count → n ≡ ring_at area first (get_or d.places i 0) → CommittedBlock area first d f n
+    parts_entry n o q = λ s p h l. at_committed s (found_in s p) (held s h) n (rw (← p.directory_is) o) (q ∙ (rw (p.area_is, p.first_is, p.directory_is) refl))
 
 -- a generation whose first block is `first`, and before whose waiting frames `ahead` others wait
 pub record Placed (s : Store) (g : Changes) (first ahead : ℕ) : Type 0 where

@@ -7,6 +7,7 @@ use Rattle.card.specs.Checkpoint.{Recovered}
 use Rattle.card.specs.Question.{first_no}
 use Rattle.card.specs.Ring.{ring_at}
 use Rattle.card.specs.declared.checkpoint.Checkpoint.{Checkpoint}
+use Rattle.card.specs.declared.directory.Directory.{Directory}
 use Rattle.frames.specs.Promise.{lent, common_asks, change, FrameKept, numbered, LoadsCommitted}
 use Rattle.frames.specs.declared.answer.Need.{Need}
 use Rattle.frames.specs.declared.answer.Place.{Place}
@@ -91,6 +92,24 @@ pub record Located (s : Store) (bytes : List ℕ → List ℕ → List ℕ) (p :
 abbrev pub placed_at : Store → (area first down ahead place : ℕ) → Place
 placed_at s area first down ahead place = cond (ltb place down) (Card (ring_at area first place)) (Memory (seat_at s.frames s.head (ahead + (place - down))))
 
+-- a record's committed generation in parts: the area, the generation's first block, its directory
+pub record CommittedParts (s : Store) (area first : ℕ) (d : Directory) : Type 0 where
+  pub area_is : area ≡ s.geometry.area
+  pub first_is : first ≡ s.first
+  pub directory_is : d ≡ s.committed
+
+-- some record has these parts, and holds together, or is lent with a card on which the frame lies
+pub record PartsHeld (area first : ℕ) (d : Directory) : Type 0 where
+  pub store : Store
+  pub parts : CommittedParts store area first d
+  pub together : holds_together store ≡ true
+
+pub record PartsLent (area first : ℕ) (d : Directory) (card : List ℕ) (frame : ℕ) : Type 0 where
+  pub store : Store
+  pub parts : CommittedParts store area first d
+  pub readable : Readable store card
+  pub inside : frame < store.geometry.blocks
+
 -- committed over home, and pending over these
 abbrev pub committed_bytes : Store → ℕ → List ℕ → List ℕ → List ℕ
 committed_bytes s f card memory = overlay (stored_frames card (committed_of s).entries) (block_at card) f
@@ -106,6 +125,13 @@ newest_bytes s f card memory = read_frame (state_of s memory) card f
 -- what the committed generation shows of a frame; memory does not matter
 abbrev pub CommittedShows : Store → List ℕ → ℕ → List ℕ → Type 0
 CommittedShows s card frame bytes = (memory : List ℕ) → LoadsCommitted (lent s memory card) frame bytes
+
+-- the block that has a frame, and its bytes, of every record with these parts
+abbrev pub CommittedBlock : (area first : ℕ) → Directory → (frame block : ℕ) → Type 0
+CommittedBlock area first d frame block = (s : Store) → CommittedParts s area first d → holds_together s ≡ true → frame < s.geometry.blocks → Located s (committed_bytes s frame) (Card block)
+
+abbrev pub PartsShow : (area first : ℕ) → Directory → List ℕ → ℕ → List ℕ → Type 0
+PartsShow area first d card frame bytes = (s : Store) → CommittedParts s area first d → Readable s card → frame < s.geometry.blocks → (memory : List ℕ) → LoadsCommitted (lent s memory card) frame bytes
 
 -- ---- room and change
 

@@ -4,9 +4,11 @@ ghost use Rattle.std.specs.Prelude.{◌≡◌, true, ◌+◌, ◌-◌, ◌≤◌
 ghost use Rattle.card.specs.Question.{first_no};
 ghost use Rattle.record.specs.Holds.{holds_together};
 ghost use Rattle.frames.specs.Promise.{common_asks, lent, Loads};
-ghost use Rattle.frames.specs.Parts.{Located, Readable, CommittedShows, committed_bytes, pending_bytes, newest_bytes, placed_at};
+ghost use Rattle.frames.specs.Parts.{Located, Readable, PartsHeld, PartsLent, CommittedBlock, PartsShow, CommittedShows};
+ghost use Rattle.frames.specs.Parts.{committed_bytes, pending_bytes, newest_bytes, placed_at};
 ghost use Rattle.frames.specs.declared.answer.Place.TheVariants.{Card};
 
+use card::directory::Directory;
 use card_blocks::block;
 use card_blocks::ring::Ring;
 use frames::answer::Place;
@@ -14,17 +16,24 @@ use record::store::Store;
 use record_hold::place;
 use record_list::list;
 
-// The block that the committed generation has of a frame, in the area or home.
+// The block that a committed generation has of a frame, in the area or home. No more of a record bears on it.
+fn committed_block(ring: Ring, d: &Directory, frame: u16) -> usize
+    requires { PartsHeld ring.area ring.first d.now }
+    ensures { CommittedBlock ring.area ring.first d.now frame result }
+{
+    match list::find(&d.frames[..d.count], frame) {
+        Ok(i) => ring.at(usize::from(d.places[i])),
+        Err(_) => usize::from(frame),
+    }
+}
+
+// The same of a record, as pending and current lie over it.
 fn in_committed(s: &Store, frame: u16) -> usize
     requires together { holds_together s.now ≡ true }
     requires on_card { frame < s.now.geometry.blocks }
     ensures { Located s.now (committed_bytes s.now frame) (Card result) }
 {
-    let d = &s.committed;
-    match list::find(&d.frames[..d.count], frame) {
-        Ok(i) => place::committed_ring(s).at(usize::from(d.places[i])),
-        Err(_) => usize::from(frame),
-    }
+    committed_block(place::committed_ring(s), &s.committed, frame)
 }
 
 // Where a place's bytes are, in a generation of which `down` places are down and before whose waiting frames `ahead`
@@ -96,11 +105,19 @@ pub fn load<'a>(s: &Store, card: &'a [u8], memory: &'a [u8], frame: usize) -> &'
     }
 }
 
+// The bytes that a committed generation shows of a frame, for a caller that has only these parts of a record.
+pub fn committed_in<'a>(ring: Ring, d: &Directory, card: &'a [u8], frame: usize) -> &'a [u8; 512]
+    requires { PartsLent ring.area ring.first d.now card.now frame }
+    ensures { PartsShow ring.area ring.first d.now card.now frame result.now }
+{
+    block::at(card, committed_block(ring, d, frame as u16))
+}
+
 // The bytes that the committed generation shows of a frame, as a part of the card.
 pub fn committed<'a>(s: &Store, card: &'a [u8], frame: usize) -> &'a [u8; 512]
     requires readable { Readable s.now card.now }
     requires on_card { frame < s.now.geometry.blocks }
     ensures { CommittedShows s.now card.now frame result.now }
 {
-    block::at(card, in_committed(s, frame as u16))
+    committed_in(place::committed_ring(s), &s.committed, card, frame)
 }

@@ -15,57 +15,52 @@ use frames::answer::Done;
 use record::store::{Geometry, Store};
 use record_list::store;
 
-// The record of a card that has passed: nothing is migrated, nothing has changed, and a flush is owed.
-fn record_of(card: &[u8], memory: &[u8], c: &Checkpoint) -> Store
-    requires { Startable memory.now card.now c.now }
-    ensures { Started memory.now card.now result }
+// The record of a card that has passed, over the one of zeros: nothing is migrated, nothing has changed, and a flush
+// is owed.
+fn fill(s: &mut Store, card: &[u8], memory: &[u8], c: &Checkpoint)
+    requires zeros { s.old ≡ zero_store }
+    requires startable { Startable memory.now card.now c.now }
+    ensures { Started memory.now card.now s.new }
 {
     let h = &c.header;
-    Store {
-        frames: memory.len() / 512,
-        head: 0,
-        geometry: Geometry {
-            blocks: card.len() / 512,
-            area: h.area,
-            count: h.count,
-            ranges: h.ranges,
-        },
-        commit: h.commit,
-        phase: 2,
-        first: c.trailer.first,
-        pages: c.trailer.pages,
-        committed: c.directory,
-        migrated: 0,
-        pending: store::no_change(),
-        tail: 0,
-        current: store::no_change(),
-    }
+    s.frames = memory.len() / 512;
+    s.geometry = Geometry {
+        blocks: card.len() / 512,
+        area: h.area,
+        count: h.count,
+        ranges: h.ranges,
+    };
+    s.commit = h.commit;
+    s.phase = 2;
+    s.first = c.trailer.first;
+    s.pages = c.trailer.pages;
+    s.committed = c.directory;
 }
 
+// What the card tells.
 #[tactic(auto, unfolding(card::specs::Question::first_no, recovery::specs::Questions::start_asks))]
-fn recovered(card: &[u8], memory: &[u8]) -> Result<Store, Refusal>
+fn recovered(card: &[u8], memory: &[u8]) -> Result<Checkpoint, Refusal>
     ensures told { told result ≡ first_no (start_asks memory.now card.now) }
-    ensures started { IfOk result (Started memory.now card.now) }
+    ensures startable { IfOk result (Startable memory.now card.now) }
 {
     if !block::is_whole(4, 64, memory.len()) {
         return Err(Refusal::Memory);
     }
-    let c = checkpoint::read(card)?;
-    Ok(record_of(card, memory, &c))
+    checkpoint::read(card)
 }
 
-// Refused, it hands out the record of zeros.
+// Refused, it hands out the record of zeros. That is made where it is handed out, and filled there if the card passes,
+// so that no record is made twice.
 pub fn start(card: &[u8], memory: &[u8]) -> Done<Result<(), Refusal>>
     ensures { FrameKept (start memory.now) (lent zero_store memory.now card.now) (numbered (told result.answer)) (lent result.store memory.now card.now) }
 {
+    let mut done = Done {
+        answer: Ok(()),
+        store: store::zeros(),
+    };
     match recovered(card, memory) {
-        Ok(store) => Done {
-            answer: Ok(()),
-            store,
-        },
-        Err(no) => Done {
-            answer: Err(no),
-            store: store::zeros(),
-        },
+        Ok(c) => fill(&mut done.store, card, memory, &c),
+        Err(no) => done.answer = Err(no),
     }
+    done
 }

@@ -1,11 +1,11 @@
 // A day of a lane over one record, which is lent to each call: two payments and a tag handed in, a page-out, a
 // snapshot, advances until none is due, a power-up, and what is found. A line for each call: its name, and the number
-// that it answers or what it tells.
+// that it answers or what it tells. The record is handed on by value, as `lend` takes it and gives it back.
 #![tactic(auto)]
 
 use card::refusal::Refusal;
 use frames::answer::Advance;
-use lane::call;
+use lane::{call, lend};
 use record::store::Store;
 use record_list::store;
 use std::io;
@@ -29,96 +29,86 @@ fn print_advance(rt: &impl Print, answer: Result<Advance, Refusal>) -> io::Resul
 }
 
 // Advances until one is refused: a hundred turns are more than a card of this size can need.
-fn advance_all(
-    rt: &impl Print,
-    store: &mut Store,
-    card: &mut [u8],
-    memory: &[u8],
-) -> io::Result<()> {
+fn advance_all(rt: &impl Print, s: Store, card: &mut [u8], memory: &[u8]) -> io::Result<Store> {
+    let mut store = s;
     for _ in 0..100 {
-        let answer = call::advance(store, card, memory);
-        print_advance(rt, answer)?;
-        if answer.is_err() {
+        let advanced = lend::advance(store, card, memory);
+        store = advanced.store;
+        print_advance(rt, advanced.answer)?;
+        if advanced.answer.is_err() {
             break;
         }
     }
-    Ok(())
+    Ok(store)
 }
 
 // Prints how many advances are left until what is marked is safe.
-fn forecast(rt: &impl Print, store: &mut Store, card: &[u8], memory: &[u8]) -> io::Result<()> {
-    match call::forecast(store, card, memory) {
-        Ok(n) => print_line(rt, "forecast", n),
-        Err(no) => print_line(rt, "refused", no.into()),
+fn forecast(rt: &impl Print, s: Store, card: &[u8], memory: &[u8]) -> io::Result<Store> {
+    let foretold = lend::forecast(s, card, memory);
+    match foretold.answer {
+        Ok(n) => print_line(rt, "forecast", n)?,
+        Err(no) => print_line(rt, "refused", no.into())?,
     }
+    Ok(foretold.store)
 }
 
 // Prints the count of a page, and the first byte that is read with that key.
-fn show<'s, 'a>(
+fn show<'a>(
     rt: &impl Print,
-    store: &'s mut Store,
+    s: Store,
     card: &'a [u8],
     memory: &'a [u8],
     oid: u32,
-) -> io::Result<()> {
-    match call::key(store, card, memory, oid) {
+) -> io::Result<Store> {
+    let keyed = lend::key(s, card, memory, oid);
+    match keyed.answer {
         Ok(count) => {
             print_line(rt, "count", count)?;
             let mut page = [0u8; 512];
-            call::lane_read(store, card, memory, oid, count, &mut page);
-            print_line(rt, "byte", page[0].into())
+            let read = lend::read(keyed.store, card, memory, oid, count, &mut page);
+            print_line(rt, "byte", page[0].into())?;
+            Ok(read.store)
         }
-        Err(no) => print_line(rt, "key", no.into()),
+        Err(no) => {
+            print_line(rt, "key", no.into())?;
+            Ok(keyed.store)
+        }
     }
 }
 
 // After a start a flush is due.
-fn morning(
-    rt: &impl Print,
-    store: &mut Store,
-    card: &mut [u8],
-    memory: &mut [u8],
-) -> io::Result<()> {
-    print_line(rt, "start", call::lane_start(store, card, memory))?;
-    print_advance(rt, call::advance(store, card, memory))?;
-    print_line(
-        rt,
-        "write",
-        call::lane_write(store, card, memory, 100, 0, 0, &[5]),
-    )?;
-    print_line(
-        rt,
-        "write",
-        call::lane_write(store, card, memory, 101, 0, 0, &[7]),
-    )?;
-    print_line(
-        rt,
-        "rescind",
-        call::lane_rescind(store, card, memory, 101, 0),
-    )?;
-    print_advance(rt, call::page_out(store, card, memory))?;
-    print_line(rt, "snapshot", call::lane_snapshot(store, card, memory))?;
-    forecast(rt, store, card, memory)?;
+fn morning(rt: &impl Print, s: Store, card: &mut [u8], memory: &mut [u8]) -> io::Result<Store> {
+    let started = lend::start(s, card, memory);
+    print_line(rt, "start", started.answer)?;
+    let flushed = lend::advance(started.store, card, memory);
+    print_advance(rt, flushed.answer)?;
+    let paid = lend::write(flushed.store, card, memory, 100, 0, 0, &[5]);
+    print_line(rt, "write", paid.answer)?;
+    let paid = lend::write(paid.store, card, memory, 101, 0, 0, &[7]);
+    print_line(rt, "write", paid.answer)?;
+    let returned = lend::rescind(paid.store, card, memory, 101, 0);
+    print_line(rt, "rescind", returned.answer)?;
+    let written = lend::page_out(returned.store, card, memory);
+    print_advance(rt, written.answer)?;
+    let marked = lend::snapshot(written.store, card, memory);
+    print_line(rt, "snapshot", marked.answer)?;
+    let store = forecast(rt, marked.store, card, memory)?;
     advance_all(rt, store, card, memory)
 }
 
 // After a power-up memory holds any bytes; start does not read the record that it is lent.
-fn evening<'s, 'a>(
-    rt: &impl Print,
-    store: &'s mut Store,
-    card: &'a [u8],
-    memory: &'a [u8],
-) -> io::Result<()> {
-    print_line(rt, "start", call::lane_start(store, card, memory))?;
-    show(rt, store, card, memory, 100)?;
+fn evening<'a>(rt: &impl Print, s: Store, card: &'a [u8], memory: &'a [u8]) -> io::Result<Store> {
+    let started = lend::start(s, card, memory);
+    print_line(rt, "start", started.answer)?;
+    let store = show(rt, started.store, card, memory, 100)?;
     show(rt, store, card, memory, 101)
 }
 
 fn main(rt: HostRuntime) -> io::Result<()> {
     let mut card = [0u8; 10240];
     let mut memory = [0u8; 2048];
-    let mut store = store::zeros();
     print_line(&rt, "format", call::lane_format(&mut card, 16, &[100, 2]))?;
-    morning(&rt, &mut store, &mut card, &mut memory)?;
-    evening(&rt, &mut store, &card, &[255u8; 2048])
+    let store = morning(&rt, store::zeros(), &mut card, &mut memory)?;
+    evening(&rt, store, &card, &[255u8; 2048])?;
+    Ok(())
 }

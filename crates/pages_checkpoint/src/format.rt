@@ -45,7 +45,7 @@ pub fn format(card: &mut [u8], area: usize, ranges: &[u32]) -> Result<(), Refusa
     if !block::is_whole(11, 65536, card.len()) {
         return Err(Refusal::Card);
     }
-    if ranges.len() % 2 != 0 || !range::fits(card.len() / 512, area, ranges) {
+    if ranges.len() % 2 != 0 || !range::all_fit(card.len() / 512, area, ranges) {
         return Err(Refusal::Geometry);
     }
     put_pots(card, area, ranges);

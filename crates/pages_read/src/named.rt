@@ -38,9 +38,21 @@ pub fn pot<'a>(
     Ok((place, load::load(s, card, memory, place.pot)))
 }
 
-// By its key: 10, and then one question more, which `other` refuses.
+// By its key: 10, and then one question more, of any number: so documents name it, and numbers are no enum here.
 #[tactic(auto, unfolding(card::specs::Question::first_no))]
-pub fn check(
+pub fn check(pot: &[u8; 512], entry: usize, count: u32, number: u32, yes: bool) -> u32
+    requires { entry < 102 }
+    ensures { result ≡ first_no (ask 10 (eqb (count_at pot.now entry) count) ∷ ask number yes ∷ []) }
+{
+    if pot::count_at(pot, entry) != count {
+        return 10;
+    }
+    if yes { 0 } else { number }
+}
+
+// The same, where `other` refuses what is asked behind 10.
+#[tactic(auto, unfolding(card::specs::Question::first_no))]
+pub fn keyed(
     pot: &[u8; 512],
     entry: usize,
     count: u32,
@@ -50,13 +62,11 @@ pub fn check(
     requires { entry < 102 }
     ensures { told result ≡ first_no (ask 10 (eqb (count_at pot.now entry) count) ∷ ask (number other) yes ∷ []) }
 {
-    if pot::count_at(pot, entry) != count {
-        return Err(Refusal::Count);
+    match check(pot, entry, count, other.into(), yes) {
+        0 => Ok(()),
+        10 => Err(Refusal::Count),
+        _ => Err(other),
     }
-    if !yes {
-        return Err(other);
-    }
-    Ok(())
 }
 
 // Is its flag set?

@@ -23,7 +23,7 @@ pub fn read<'a>(
         (lent s memory.now card.now) }
 {
     let (place, pot) = named::pot(&s, card, memory, oid)?;
-    named::check(
+    named::keyed(
         pot,
         place.entry,
         count,

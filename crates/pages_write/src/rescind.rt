@@ -33,7 +33,7 @@ fn empty(s: &mut Store, card: &[u8], memory: &mut [u8], oid: u32, count: u32) ->
         (lent s.new memory.new card.now) }
 {
     let (place, pot) = named::pot(s, card, memory, oid)?;
-    named::check(
+    named::keyed(
         pot,
         place.entry,
         count,

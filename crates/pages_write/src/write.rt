@@ -67,7 +67,7 @@ fn put(
         (lent s.new memory.new card.now) }
 {
     let (place, pot) = named::pot(s, card, memory, oid)?;
-    named::check(
+    named::keyed(
         pot,
         place.entry,
         count,

@@ -14,11 +14,11 @@ use card_places::range;
 use record::store::{Changes, Geometry, Store};
 use record_list::list;
 
-#[tactic(auto, using(card::proofs::RangeLaws::geometry_many, card::proofs::RangeLaws::ranges_of_front), unfolding(record::specs::Holds::geometry_holds))]
+#[tactic(auto, unfolding(record::specs::Holds::geometry_holds))]
 fn geometry_holds(g: &Geometry) -> bool
     ensures { result ≡ geometry_holds g.now }
 {
-    g.count <= 8 && range::fits(g.blocks, g.area, &g.ranges[..2 * g.count])
+    range::fits(g.blocks, g.area, &g.ranges, g.count)
 }
 
 #[tactic(auto, unfolding(record::specs::Holds::committed_holds))]

@@ -72,6 +72,7 @@ pub fn all_rise(frames: &[u16], low: usize, high: usize) -> bool
 }
 
 // Where x stands among frames that rise, or its place among them.
+#[tactic(auto, using(record::proofs::ListLaws::sought_by_search))]
 pub fn find(frames: &[u16], x: u16) -> Result<usize, usize>
     requires { Rises frames.now (length frames.now) }
     ensures { Sought frames.now x result }

@@ -1,8 +1,19 @@
 -- `frames_load::load::committed` meets its contract.
-use Rattle.std.proofs.Common.{◌∙◌}
-use Rattle.recovery.specs.State.{committed_frame}
+use Rattle.std.proofs.Common.{refl}
 use Rattle.frames_load.proofs.load.committed.Goals as goal
 
+pub committed_in-requires : goal.committed_in-requires
+committed_in-requires c =
+    let ring = c.committed_ring.ensures in
+    record {
+      store = c.args.s.now;
+      parts = record { area_is = ring.area; first_is = ring.first; directory_is = refl };
+      readable = c.requires.readable;
+      inside = c.requires.on_card;
+    }
+
 pub returns : goal.returns
-unfolding committed_frame
-returns c = λ memory. c.at.ensures ∙ c.in_committed.ensures.there c.args.card.now memory
+returns c =
+    let ring = c.committed_ring.ensures in
+    c.committed_in.ensures c.args.s.now (record { area_is = ring.area; first_is = ring.first; directory_is = refl })
+    c.requires.readable c.requires.on_card

@@ -6,7 +6,7 @@ use Rattle.frames.proofs.CallLaws.{start_refused, start_done}
 use Rattle.frames_load.proofs.start.start.Goals as goal
 
 pub returns-in-Ok : goal.returns-in-Ok
-returns-in-Ok c = start_done _ _ _ c.in-Ok.ensures.told c.in-Ok.ensures.started
+returns-in-Ok c = start_done _ _ _ c.in-Ok.ensures.told c.fill.ensures
 
 pub returns-in-Err : goal.returns-in-Err
 returns-in-Err c =

@@ -8,21 +8,21 @@ use Rattle.pages.proofs.CallLaws.{write_refused, write_nothing, write_page, writ
 use Rattle.pages.proofs.NamedLaws.{positive, found_by, page_readable, page_whole, small, page_changing, both_changing}
 use Rattle.pages.proofs.NamedLaws.{page_full, page_empty, named_stops, Keyed, key_stops, key_passes}
 use Rattle.pages_write.proofs.write.put.Goals as goal
-use Rattle.pages_write.proofs.write.put.Goals.{In_ok-check}
+use Rattle.pages_write.proofs.write.put.Goals.{In_ok-keyed}
 
 -- questions 10 and 11 are passed
-keyed : (c : In_ok-check)
+keyed : (c : In_ok-keyed)
     → Keyed (lent c.args.s.now c.args.memory.now c.args.card.now) c.args.oid c.args.count c.in_ok-place.place
     c.in_ok-place.pot.now
     (leb (c.args.at + length c.args.new.now) 512)
 keyed c =
     let found = c.in_ok-place.ensures.found in
-    key_passes _ _ _ _ (found_by found) _ found.pot_is 10 _ (rw c.fits.ensures at c.in_ok-check.ensures) refl
+    key_passes _ _ _ _ (found_by found) _ found.pot_is 10 _ (rw c.fits.ensures at c.in_ok-keyed.ensures) refl
 
-fits : (c : In_ok-check) → c.args.at + length c.args.new.now ≤ 512
+fits : (c : In_ok-keyed) → c.args.at + length c.args.new.now ≤ 512
 fits c = leb-true _ 512 (keyed c).own_is
 
-fresh-long : (c : In_ok-check) → length (patch zeros c.args.at c.args.new.now) ≡ 512
+fresh-long : (c : In_ok-keyed) → length (patch zeros c.args.at c.args.new.now) ≡ 512
 fresh-long c = patch-length zeros _ _ (omega (arith, fits c, zeros-length)) ∙ zeros-length
 
 pub returns-in_err-place : goal.returns-in_err-place
@@ -30,24 +30,24 @@ returns-in_err-place c =
     let p = err_from_is_err_and c.from_residual.result c.from_residual.ensures.1 in
     rw (p.1, p.2) (write_refused _ _ _ _ _ _ (named_stops _ _ _ c.in_err-place.field-0.0 c.in_err-place.ensures.told))
 
-pub returns-in_err-check : goal.returns-in_err-check
-returns-in_err-check c =
-    let p = err_from_is_err_and c.from_residual-in_err-check.result c.from_residual-in_err-check.ensures.1 in
+pub returns-in_err-keyed : goal.returns-in_err-keyed
+returns-in_err-keyed c =
+    let p = err_from_is_err_and c.from_residual-in_err-keyed.result c.from_residual-in_err-keyed.ensures.1 in
     let found = c.in_ok-place.ensures.found in
-    let some = positive c.in_err-check.field-0.0 in
-    let asked = rw c.fits.ensures at c.in_err-check.ensures in
+    let some = positive c.in_err-keyed.field-0.0 in
+    let asked = rw c.fits.ensures at c.in_err-keyed.ensures in
     rw (p.1, p.2) (write_refused _ _ _ _ _ _ (key_stops _ _ _ _ (found_by found) _ found.pot_is 10 _ asked _ some))
 
 pub returns-then-is_empty : goal.returns-then-is_empty
 returns-then-is_empty c =
     let none : length c.args.new.now ≡ 0 = grind arith in
-    write_nothing _ _ _ _ _ _ _ (keyed (goal.at.returns-then-is_empty c).In_ok-check) none _ refl
+    write_nothing _ _ _ _ _ _ _ (keyed (goal.at.returns-then-is_empty c).In_ok-keyed) none _ refl
 
 pub overflow_cast-page : goal.overflow_cast-page
 overflow_cast-page c = omega (arith, (small _ _ _ (found_by c.in_ok-place.ensures.found)).0)
 
 pub lay-both-requires : goal.lay-both-requires
-lay-both-requires c = fits (goal.at.lay-both-requires c).In_ok-check
+lay-both-requires c = fits (goal.at.lay-both-requires c).In_ok-keyed
 
 pub overflow_cast-place : goal.overflow_cast-place
 overflow_cast-place c = omega (arith, (small _ _ _ (found_by c.in_ok-place.ensures.found)).1)
@@ -55,12 +55,12 @@ overflow_cast-place c = omega (arith, (small _ _ _ (found_by c.in_ok-place.ensur
 pub change-requires : goal.change-requires
 change-requires c =
     both_changing _ _ _ (found_by c.in_ok-place.ensures.found) refl refl _ c.clear.new.pot
-    (fresh-long (goal.at.change-requires c).In_ok-check)
+    (fresh-long (goal.at.change-requires c).In_ok-keyed)
     c.clear.array_long c.lay-both.ensures
 
 pub returns-then-is_zero : goal.returns-then-is_zero
 returns-then-is_zero c =
-    let at_check = (goal.at.returns-then-is_zero c).In_ok-check in
+    let at_check = (goal.at.returns-then-is_zero c).In_ok-keyed in
     let k = keyed at_check in
     let new = c.args.new.now in
     let some : length new ≢ 0 = grind arith in
@@ -75,7 +75,7 @@ change-requires-then-new-eq512 c =
 
 pub returns-then-new-eq512 : goal.returns-then-new-eq512
 returns-then-new-eq512 c =
-    let at_check = (goal.at.returns-then-new-eq512 c).In_ok-check in
+    let at_check = (goal.at.returns-then-new-eq512 c).In_ok-keyed in
     let k = keyed at_check in
     let new = c.args.new.now in
     let some : length new ≢ 0 = omega (arith, c.if-new-eq512.true) in
@@ -90,14 +90,14 @@ pub load-requires-clause-on_card : goal.load-requires-clause-on_card
 load-requires-clause-on_card c = (page_readable _ _ _ (found_by c.in_ok-place.ensures.found)).1
 
 pub patch-requires : goal.patch-requires
-patch-requires c = fits (goal.at.patch-requires c).In_ok-check
+patch-requires c = fits (goal.at.patch-requires c).In_ok-keyed
 
 pub change-requires-2 : goal.change-requires-2
 change-requires-2 c = page_changing _ _ _ (found_by c.in_ok-place.ensures.found) refl _ c.patch.array_long
 
 pub returns : goal.returns
 returns c =
-    let k = keyed (goal.at.returns c).In_ok-check in
+    let k = keyed (goal.at.returns c).In_ok-keyed in
     let new = c.args.new.now in
     let some : length new ≢ 0 = grind arith in
     let flag = sym c.is_zero.ensures ∙ c.if-is_zero.false in

@@ -1,9 +1,9 @@
--- `card_places::range::fits` meets its contract.
+-- `card_places::range::all_fit` meets its contract.
 use borrow.Author.Rules.{rules}
 use Rattle.card.proofs.HeaderLaws.{ranges_length}
 use Rattle.card.proofs.RangeLaws.{ranges_of_front}
 use Rattle.card.specs.Range.{geometry_fits}
-use Rattle.card_places.proofs.range.fits.Goals as goal
+use Rattle.card_places.proofs.range.all_fit.Goals as goal
 
 pub returns-then-contains-2 : goal.returns-then-contains-2
 unfolding geometry_fits
