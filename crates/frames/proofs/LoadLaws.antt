@@ -151,11 +151,11 @@ module _ {area first : ℕ} {d : Directory} where
     pub parts_home : (n : ℕ) → i ≡ d.count → n ≡ f → CommittedBlock area first d f n
     parts_home n e q = λ s p h l. at_home s (found_in s p) n (rw (← p.directory_is) e) q l
 
-    pub parts_fit : PartsHeld area first d → i ≢ d.count → {place : ℕ} → place ≡ get_or d.places i 0 → place ≤ area
+    pub parts_fit : PartsHeld area first d → i ≢ d.count → {place : ℕ} → place ≡ get_or d.places i 0 → (area ≤ 512) × ((first ≤ area) × (place ≤ area))
     parts_fit k n e =
         let p = k.parts in
         let fits = committed_fits k.store (found_in k.store p) (held k.store k.together) (rw (← p.directory_is) n) (e ∙ ap (λ (x : Directory). get_or x.places i 0) p.directory_is) in
-        omega (arith, p.area_is, fits.1.1)
+        (omega (arith, p.area_is, fits.0), (omega (arith, p.area_is, p.first_is, fits.1.0), omega (arith, p.area_is, fits.1.1)))
 
     pub parts_entry : (n : ℕ) → i ≢ d.count → n ≡ ring_at area first (get_or d.places i 0) → CommittedBlock area first d f n
     parts_entry n o q = λ s p h l. at_committed s (found_in s p) (held s h) n (rw (← p.directory_is) o) (q ∙ (rw (p.area_is, p.first_is, p.directory_is) refl))

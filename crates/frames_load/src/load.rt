@@ -105,19 +105,19 @@ pub fn load<'a>(s: &Store, card: &'a [u8], memory: &'a [u8], frame: usize) -> &'
     }
 }
 
-// The bytes that a committed generation shows of a frame, for a caller that has only these parts of a record.
-pub fn committed_in<'a>(ring: Ring, d: &Directory, card: &'a [u8], frame: usize) -> &'a [u8; 512]
+// The bytes that a committed generation shows of a frame, as a part of the card; by the parts of a record that tell it.
+pub fn committed<'a>(ring: Ring, d: &Directory, card: &'a [u8], frame: usize) -> &'a [u8; 512]
     requires { PartsLent ring.area ring.first d.now card.now frame }
     ensures { PartsShow ring.area ring.first d.now card.now frame result.now }
 {
     block::at(card, committed_block(ring, d, frame as u16))
 }
 
-// The bytes that the committed generation shows of a frame, as a part of the card.
-pub fn committed<'a>(s: &Store, card: &'a [u8], frame: usize) -> &'a [u8; 512]
+// The same of a record.
+pub fn committed_of<'a>(s: &Store, card: &'a [u8], frame: usize) -> &'a [u8; 512]
     requires readable { Readable s.now card.now }
     requires on_card { frame < s.now.geometry.blocks }
     ensures { CommittedShows s.now card.now frame result.now }
 {
-    committed_in(place::committed_ring(s), &s.committed, card, frame)
+    committed(place::committed_ring(s), &s.committed, card, frame)
 }

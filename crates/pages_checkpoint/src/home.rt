@@ -59,7 +59,7 @@ fn is_over(s: &Store, card: &[u8], f: usize) -> bool
     ensures { OverIs s.now card.now f result }
 {
     match frame_at(&s.geometry, f) {
-        Some(page) => named::is_zero(load::committed(s, card, page.pot), page.entry),
+        Some(page) => named::is_zero(load::committed_of(s, card, page.pot), page.entry),
         None => false,
     }
 }

@@ -38,7 +38,7 @@ pub fn pot<'a>(
     Ok((place, load::load(s, card, memory, place.pot)))
 }
 
-// By its key: 10, and then one question more, of any number: so documents name it, and numbers are no enum here.
+// By its key: 10, and then one question more, of any number, as documents name this function.
 #[tactic(auto, unfolding(card::specs::Question::first_no))]
 pub fn check(pot: &[u8; 512], entry: usize, count: u32, number: u32, yes: bool) -> u32
     requires { entry < 102 }

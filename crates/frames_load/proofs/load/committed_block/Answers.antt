@@ -13,7 +13,7 @@ find-requires c = filed_rises (parts_filed c.requires)
 pub at-requires : goal.at-requires
 at-requires c =
     let d = parts_filed c.requires in
-    parts_fit (filed_found d c.in-Ok.ensures) c.requires (filed_inside d c.in-Ok.ensures) c.from.ensures
+    (parts_fit (filed_found d c.in-Ok.ensures) c.requires (filed_inside d c.in-Ok.ensures) c.from.ensures).1.1
 
 pub returns-in-Ok : goal.returns-in-Ok
 returns-in-Ok c =
