@@ -1,17 +1,10 @@
 // Records of zeros.
 ghost use Rattle.std.specs.Prelude.{◌≡◌};
-ghost use Rattle.record.specs.Meaning.{zero_changes, zero_store};
+ghost use Rattle.record.specs.Meaning.{zero_store};
 
-use record::store::{Changes, Store};
+use record::store::Store;
 
-// A generation without a change.
-pub fn no_change() -> Changes
-    ensures { result ≡ zero_changes }
-{
-    Changes::default()
-}
-
-// The record that a refused start hands out.
+// The record that a refused start hands out, and an accepted one fills.
 pub fn zeros() -> Store
     ensures { result ≡ zero_store }
 {

@@ -60,13 +60,13 @@ change-requires c =
 
 pub returns-then-is_zero : goal.returns-then-is_zero
 returns-then-is_zero c =
-    let at_check = (goal.at.returns-then-is_zero c).In_ok-keyed in
-    let k = keyed at_check in
+    let at_keyed = (goal.at.returns-then-is_zero c).In_ok-keyed in
+    let k = keyed at_keyed in
     let new = c.args.new.now in
     let some : length new ≢ 0 = grind arith in
     let flag = sym c.is_zero.ensures ∙ c.if-is_zero.true in
     let page-is = ap (λ (x : List ℕ). patch x c.args.at new) (sym (page_empty _ _ _ k.pot_is flag)) in
-    write_both _ _ _ _ new _ _ k some _ (fresh-long at_check) page-is _ flag c.clear.new.pot c.clear.array_long
+    write_both _ _ _ _ new _ _ k some _ (fresh-long at_keyed) page-is _ flag c.clear.new.pot c.clear.array_long
     c.clear.ensures refl refl c.lay-both.ensures c.change.ensures.kept
 
 pub change-requires-then-new-eq512 : goal.change-requires-then-new-eq512
@@ -75,14 +75,14 @@ change-requires-then-new-eq512 c =
 
 pub returns-then-new-eq512 : goal.returns-then-new-eq512
 returns-then-new-eq512 c =
-    let at_check = (goal.at.returns-then-new-eq512 c).In_ok-keyed in
-    let k = keyed at_check in
+    let at_keyed = (goal.at.returns-then-new-eq512 c).In_ok-keyed in
+    let k = keyed at_keyed in
     let new = c.args.new.now in
     let some : length new ≢ 0 = omega (arith, c.if-new-eq512.true) in
     let flag = sym c.is_zero.ensures ∙ c.if-is_zero.false in
     let old-long = page_whole _ _ _ (found_by c.in_ok-place.ensures.found) in
     let old-is = ap (λ (x : List ℕ). patch x c.args.at new) (page_full _ _ _ k.pot_is flag) in
-    let page-is = sym (old-is ∙ patch-whole _ c.args.at new (omega (arith, fits at_check, old-long))
+    let page-is = sym (old-is ∙ patch-whole _ c.args.at new (omega (arith, fits at_keyed, old-long))
     (c.if-new-eq512.true ∙ sym old-long)) in
     write_page _ _ _ _ new _ _ k some new c.if-new-eq512.true page-is _ flag refl c.change-then-new-eq512.ensures.kept
 
